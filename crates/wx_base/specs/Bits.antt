@@ -1,0 +1,30 @@
+-- Words as numbers, and the numbers that stand in their bits.
+use Rattle.std.specs.Prelude.{ℕ, ◌+◌, ◌-◌, ◌*◌, ◌/◌, ◌%◌, ◌^◌, Bool, ◌==◌, List, [], ◌∷◌}
+
+-- bits high to low of a word, as a number
+abbrev pub bits : ℕ → ℕ → ℕ → ℕ
+bits high low word = word / 2 ^ low % 2 ^ (high + 1 - low)
+
+-- bit k of a set of small numbers: whether k is in the set
+abbrev pub is_in : ℕ → ℕ → Bool
+is_in set k = set / 2 ^ k % 2 == 1
+
+-- a 32-bit word of four bytes, the lowest first
+abbrev pub word_of_bytes : ℕ → ℕ → ℕ → ℕ → ℕ
+word_of_bytes a b c d = a + 256 * b + 65536 * c + 16777216 * d
+
+-- the four bytes of a 32-bit word, the lowest first
+abbrev pub bytes_of_word : ℕ → List ℕ
+bytes_of_word word = word % 256 ∷ word / 256 % 256 ∷ word / 65536 % 256 ∷ word / 16777216 ∷ []
+
+-- a sum of words, modulo 2^32
+abbrev pub add_words : ℕ → ℕ → ℕ
+add_words a b = (a + b) % 2 ^ 32
+
+-- a difference of words, modulo 2^32
+abbrev pub sub_words : ℕ → ℕ → ℕ
+sub_words a b = (a + 2 ^ 32 - b) % 2 ^ 32
+
+-- a word rotated right by fewer than 32 bits
+abbrev pub rotated_right : ℕ → ℕ → ℕ
+rotated_right word by = word / 2 ^ by + word % 2 ^ by * 2 ^ (32 - by)

@@ -1,0 +1,11 @@
+pub mod Outside
+pub mod Bits
+pub mod Machine
+pub mod Instruction
+pub mod Image
+pub mod State
+pub mod Cache
+pub mod Recurrence
+pub mod Vector
+pub mod Monitor
+pub mod Run

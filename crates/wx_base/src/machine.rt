@@ -1,0 +1,142 @@
+ghost use Rattle.std.specs.Prelude.{◌≡◌};
+
+use crate::text::Text;
+use std::alloc::Global;
+use std::marker::Model;
+
+/// The three kinds of unit that execute instructions.
+#[derive(Clone, Copy, Debug, PartialEq, Eq)]
+pub enum UnitKind {
+    /// Data processing and branches.
+    Alu,
+    /// Multiplications.
+    Mul,
+    /// Loads and stores.
+    Mem,
+}
+
+/// How long a unit takes, in cycles.
+#[derive(Clone, Copy, Debug, PartialEq, Eq)]
+pub struct Unit {
+    /// From the start of an instruction to its end.
+    pub latency: u64,
+    /// From the start of an instruction to the next that the unit may start.
+    pub occupancy: u64,
+    /// What a slow instruction takes besides; 0 for the ALU.
+    pub slow: u64,
+}
+
+/// The shape of an LRU instruction cache.
+#[derive(Clone, Copy, Debug, PartialEq, Eq)]
+pub struct Shape {
+    /// How many sets, a power of two.
+    pub sets: u32,
+    /// How many lines a set can hold.
+    pub ways: u32,
+    /// The bytes of a line, a power of two.
+    pub line: u32,
+}
+
+/// A range of addresses, first and last included.
+#[derive(Debug, Drop)]
+pub struct Region {
+    pub name: Text,
+    pub first: u32,
+    pub last: u32,
+    /// Whether an access to a byte of it is slow.
+    pub slow: bool,
+}
+
+/// Regions in the order of the description: contracts see the list.
+#[derive(Debug, Drop)]
+pub struct Regions {
+    items: Vec<Region>,
+}
+
+impl Model for Regions {
+    ghost use Rattle.std.specs.Prelude.{List};
+    ghost use Rattle.wx_base.specs.declared.machine.Region.{Region};
+
+    ghost Value = { List Region };
+
+    ghost view = { λ regions. regions.items.items };
+}
+
+impl Regions {
+    /// The regions of a list.
+    pub fn new(items: Vec<Region>) -> Regions
+        ensures { result ≡ items.items }
+    {
+        Regions { items }
+    }
+
+    /// The regions in order.
+    pub fn as_slice(&self) -> &[Region]
+        ensures { result.now ≡ self.now }
+    {
+        self.items.as_slice()
+    }
+}
+
+/// A written machine: its pipeline, its memory's regions and its instruction cache.
+#[derive(Debug, Drop)]
+pub struct Machine {
+    /// How many instructions a stage takes in a cycle, 1 or 2.
+    pub width: u8,
+    /// How many instructions the fetch queue holds, 1 to 8.
+    pub queue: u8,
+    /// Cycles of a fetch that hits.
+    pub hit: u64,
+    /// Cycles that a fetch takes besides if it misses.
+    pub miss: u64,
+    pub alu: Unit,
+    pub mul: Unit,
+    pub mem: Unit,
+    pub regions: Regions,
+    /// The instruction cache.
+    pub shape: Shape,
+    /// How far behind the next instruction's earliest time the analysis tells times apart, in cycles.
+    pub horizon: u64,
+    /// How many vectors the analysis keeps at a node before it joins them.
+    pub states: u32,
+}
+
+impl Machine {
+    ghost use Rattle.wx_base.specs.Machine.{m1, IsMachine};
+
+    /// The machine that the examples speak of, and that a bound is for where no description is given.
+    pub fn m1(alloc: Global) -> Machine
+        ensures value { result ≡ m1 }
+        ensures in_range { IsMachine result }
+    {
+        Machine {
+            width: 1,
+            queue: 2,
+            hit: 1,
+            miss: 8,
+            alu: Unit {
+                latency: 1,
+                occupancy: 1,
+                slow: 0,
+            },
+            mul: Unit {
+                latency: 3,
+                occupancy: 1,
+                slow: 2,
+            },
+            mem: Unit {
+                latency: 2,
+                occupancy: 1,
+                slow: 6,
+            },
+            regions: Regions::new(Vec::new(alloc)),
+            shape: Shape {
+                sets: 2,
+                ways: 2,
+                line: 16,
+            },
+            horizon: 255,
+            states: 8,
+        }
+    }
+}
