@@ -1,1 +1,4 @@
+pub mod DigitLemmas
+pub mod Found
+pub mod Held
 pub mod MachineLemmas

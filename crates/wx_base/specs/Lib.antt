@@ -1,4 +1,11 @@
 pub mod Outside
+pub mod Outages
+pub mod MemSink
+pub mod MemStore
+pub mod Host
+pub mod Decimal
+pub mod Cursor
+pub mod Symbols
 pub mod Bits
 pub mod Machine
 pub mod Instruction

@@ -1,16 +1,33 @@
 //! What every crate of the analyser shares: records, definitions, and the traits of the outside world.
 #![tactic(auto)]
 
+mod cursor;
+mod decimal;
+mod file;
+mod host_sink;
+mod host_store;
 mod machine;
+mod mem_sink;
+mod mem_store;
 mod memory;
+mod outages;
 mod sink;
 mod store;
+mod symbol;
 mod text;
 mod times;
 
+pub use cursor::Cursor;
+pub use decimal::{decimal_is_shortest, push_number};
+pub use file::File;
+pub use host_sink::HostSink;
+pub use host_store::HostStore;
 pub use machine::{Machine, Region, Regions, Shape, Unit, UnitKind};
+pub use mem_sink::MemSink;
+pub use mem_store::MemStore;
 pub use memory::NoMemory;
 pub use sink::{Sink, SinkFault};
 pub use store::{Store, StoreFault};
+pub use symbol::{Symbol, find_symbol};
 pub use text::Text;
 pub use times::Times;

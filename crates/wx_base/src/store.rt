@@ -1,6 +1,9 @@
 ghost use Rattle.std.specs.Prelude.{◌≡◌, ◌≢◌, ℕ, ◌≤◌, List, [], Option};
 ghost use Rattle.wx_base.specs.Outside.{Contents, counted, ReadGives, WriteGives, ChangesOnly};
 
+/// The greatest length of a file, in bytes.
+pub const LONGEST_FILE: usize = 16_777_216;
+
 /// Why a store did not do what it was asked.
 #[derive(Clone, Copy, Debug, PartialEq, Eq)]
 pub enum StoreFault {

@@ -1,0 +1,102 @@
+ghost use Rattle.std.specs.Prelude.{◌≤◌, ℕ, length, None, IfOk};
+
+use crate::sink::{Sink, SinkFault};
+use std::io;
+use std::marker::Model;
+
+// How often a put is tried again after a signal came before the first byte.
+const TRIES: usize = 64;
+
+/// Standard output, or whatever `P` prints to: a trusted edge, which tells nothing of what it took.
+///
+/// Its writes are not buffered, so what was taken has left the program.
+#[derive(Drop)]
+pub struct HostSink<P: Print> {
+    output: P,
+    faults: u64,
+}
+
+impl<P: Print> Model for HostSink<P> {
+    ghost Value = { ℕ };
+
+    ghost view = { λ s. s.faults };
+}
+
+impl<P: Print> HostSink<P> {
+    /// A sink that prints to this output, as `HostSink::new(&rt)`.
+    pub fn new(output: P) -> HostSink<P> {
+        HostSink { output, faults: 0 }
+    }
+}
+
+impl<P: Print> Sink for HostSink<P> {
+    ghost taken = { λ _. None };
+
+    ghost faults = { λ count. count };
+
+    ghost reliable = { λ _. ⊥ };
+
+    fn put(&mut self, piece: &[u8]) -> Result<usize, SinkFault> {
+        match write_some(&self.output, piece) {
+            Ok(n) if n > 0 || piece.is_empty() => Ok(n),
+            Err(error) if error.kind() == io::ErrorKind::OutOfMemory => Err(SinkFault::NoMemory),
+            _ => {
+                self.faults = self.faults.saturating_add(1);
+                Err(SinkFault::Failed)
+            }
+        }
+    }
+}
+
+// One write, tried again where a signal interrupts it.
+fn write_some<P: Print>(output: &P, piece: &[u8]) -> io::Result<usize>
+    ensures { IfOk result (λ n. n ≤ length piece.now) }
+{
+    for _ in 0..TRIES {
+        match output.write_some(piece) {
+            Err(error) if error.kind() == io::ErrorKind::Interrupted => {}
+            answer => return answer,
+        }
+    }
+    Err(io::Error::from(io::ErrorKind::Interrupted))
+}
+
+#[cfg(test)]
+mod tests {
+    use super::*;
+    use std::fmt::Display;
+    use std::test::Fail;
+
+    // A device that takes at most this many bytes of a piece.
+    #[derive(Drop)]
+    struct Narrow(usize);
+
+    impl Print for Narrow {
+        fn print<D: Display + Drop>(&self, _value: D) -> io::Result<()> {
+            Ok(())
+        }
+
+        fn println<D: Display + Drop>(&self, _value: D) -> io::Result<()> {
+            Ok(())
+        }
+
+        fn write_all(&self, _bytes: &[u8]) -> io::Result<()> {
+            Ok(())
+        }
+
+        fn write_some(&self, bytes: &[u8]) -> io::Result<usize> {
+            Ok(bytes.len().min(self.0))
+        }
+    }
+
+    #[test]
+    fn puts_what_the_device_takes(rt: HostRuntime) -> Result<(), Fail> {
+        let piece = b"four".as_slice();
+        assert_eq!(rt; HostSink::new(Narrow(9)).put(piece), Ok(4));
+        assert_eq!(rt; HostSink::new(Narrow(3)).put(piece), Ok(3));
+        assert_eq!(rt; HostSink::new(Narrow(0)).put(piece), Err(SinkFault::Failed));
+        assert_eq!(rt; HostSink::new(Narrow(0)).put(b"".as_slice()), Ok(0));
+        assert_eq!(rt; HostSink::new(&rt).put(b"put\n".as_slice()), Ok(4));
+        Ok(())
+    }
+}
