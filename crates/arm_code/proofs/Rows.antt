@@ -275,3 +275,15 @@ if_some_spelled word (Some i) small e = spelled word i small (sym e)
 pub if_some_valid : (word : ℕ) (o : Option Insn) → word < 2 ^ 32 → o ≡ decoded word → IfSome o (λ i. IsValid i)
 if_some_valid word None small e = tt
 if_some_valid word (Some i) small e = record { word = word; fits = small; means = sym e }
+
+two_rows : (word : ℕ) → matches AluImmediate word ≡ true → matches Svc word ≡ true → ⊥
+two_rows word a b =
+    let alu : bits 27 25 word ≡ 1 = eqb-true _ _ (and_parts (eqb (bits 27 25 word) 1) _ a).0 in
+    let call : bits 27 24 word ≡ 15 = eqb-true _ _ (and_parts (eqb (bits 27 24 word) 15) _ b).0 in
+    omega arith
+
+pub apart : (word : ℕ) (a b : Kind) → matches a word ≡ true → matches b word ≡ true → a ≡ b
+apart word AluImmediate AluImmediate p q = refl
+apart word AluImmediate Svc p q = absurd (two_rows word p q)
+apart word Svc AluImmediate p q = absurd (two_rows word q p)
+apart word Svc Svc p q = refl

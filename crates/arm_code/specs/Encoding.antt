@@ -1,5 +1,5 @@
 -- Instructions as values, and the words that they stand for. ARM Architecture Reference Manual, A32 encodings.
-use Rattle.std.specs.Prelude.{◌≡◌, ℕ, ◌+◌, ◌*◌, ◌^◌, ◌<◌, Bool, ◌==◌, if◌then◌else◌, Option, Some, None}
+use Rattle.std.specs.Prelude.{◌≡◌, ℕ, ◌+◌, ◌*◌, ◌^◌, ◌<◌, Bool, true, ◌==◌, if◌then◌else◌, Option, Some, None}
 use Rattle.std.specs.Option.{option_map}
 use Rattle.arm_code.specs.declared.insn.Insn.{Insn}
 use Rattle.arm_code.specs.declared.insn.Op.{Op}
@@ -48,3 +48,7 @@ op_bits (op.Svc number) = 15 * 2 ^ 24 + number
 -- the word of an instruction
 unfoldable pub word_of : Insn → ℕ
 word_of insn = insn.cond * 2 ^ 28 + op_bits insn.op
+
+-- no word matches two rows
+abbrev pub RowsAreApart : Type 0
+RowsAreApart = (word : ℕ) (a b : Kind) → matches a word ≡ true → matches b word ≡ true → a ≡ b

@@ -1,5 +1,5 @@
 ghost use Rattle.std.specs.Prelude.{◌≡◌, ℕ, ◌<◌, ◌^◌, ◌+◌, ◌*◌, Some, IfSome, IsTrue, ◌↔◌};
-ghost use Rattle.arm_code.specs.Encoding.{decoded, word_of, op_bits, operand_bits, IsValid, read_row};
+ghost use Rattle.arm_code.specs.Encoding.{decoded, word_of, op_bits, operand_bits, IsValid, read_row, RowsAreApart};
 ghost use Rattle.arm_code.specs.Ranges.{IsAlu, IsSvc, OperandFits};
 ghost use Rattle.wx_base.specs.Instruction.{is_proper_alu, AluImmediate, Svc};
 
@@ -206,3 +206,8 @@ pub fn encode(insn: &Insn) -> u32
         Op::Svc { number } => svc_word(insn.cond, number),
     }
 }
+
+/// A law of the table: no word matches two of its rows.
+pub fn rows_are_apart()
+    ensures { RowsAreApart }
+{}

@@ -7,5 +7,5 @@ mod insn;
 
 pub use bits::field;
 pub use columns::{reads, transfers, unit, writes};
-pub use insn::{Insn, Op, Operand, decode, encode, is_valid};
+pub use insn::{Insn, Op, Operand, decode, encode, is_valid, rows_are_apart};
 pub use wx_base::UnitKind;

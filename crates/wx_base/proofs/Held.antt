@@ -86,14 +86,14 @@ put-found_other found files name i d new e last at named other differ =
     rw (← e) (held-set_other found name other i d new old e' differ)
 
 -- a read of what a name has is one of a store that holds just that
-pub read-known : (contents : Contents) (name content bytes : List ℕ) (n n' : ℕ) (r : Result (Unit {0}) StoreFault) → contents name ≡ Some content → n' ≡ n → ReadGives (Some (λ _. Some content)) [] 0 0 bytes r → ReadGives (Some contents) name n n' bytes r
-read-known contents name content bytes n n' (Ok x) e en (a, b, c) = (en, b, e ∙ c)
-read-known contents name content bytes n n' (Err store_fault.Failed) e en h =
+pub read-known : (contents : Contents) (name content bytes : List ℕ) (n n' : ℕ) (r : Result (Unit {0}) StoreFault) → contents name ≡ Some content → ReadGives (Some (λ _. Some content)) [] 0 0 bytes r → ReadGives (Some contents) name n n' bytes r
+read-known contents name content bytes n n' (Ok x) e (b, c) = (b, e ∙ c)
+read-known contents name content bytes n n' (Err store_fault.Failed) e h =
     elim h.0 [ inl l ↦ absurd (omega arith) | inr q ↦ absurd (omega arith) ]
-read-known contents name content bytes n n' (Err store_fault.Missing) e en (a, b, c) = cc
-read-known contents name content bytes n n' (Err store_fault.Long) e en (a, (b, (rest, l, c))) = (en, (b, (rest, l, e ∙ c)))
-read-known contents name content bytes n n' (Err store_fault.NoMemory) e en (a, b) =
-    (en, elim b [ inl q ↦ inl q | inr q ↦ inr (q.0, e ∙ q.1) ])
+read-known contents name content bytes n n' (Err store_fault.Missing) e (b, c) = cc
+read-known contents name content bytes n n' (Err store_fault.Long) e (b, (rest, l, c)) = (b, (rest, l, e ∙ c))
+read-known contents name content bytes n n' (Err store_fault.NoMemory) e b =
+    elim b [ inl q ↦ inl q | inr q ↦ inr (q.0, e ∙ q.1) ]
 
 -- what a copy of the first bytes is, where that was not all
 pub cut-short : (content into got : List ℕ) (m most : ℕ) (b : Bool) → into ≡ [] → got ≡ (if b then into ++ take m content else into) → true ≡ b → m ≡ min (length content) most → length (take m content) < length content → (length got ≡ most) × ((rest : List ℕ) × (0 < length rest) × (Some content ≡ Some (got ++ rest)))

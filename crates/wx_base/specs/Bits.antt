@@ -1,5 +1,6 @@
 -- Words as numbers, and the numbers that stand in their bits.
-use Rattle.std.specs.Prelude.{ℕ, ◌+◌, ◌-◌, ◌*◌, ◌/◌, ◌%◌, ◌^◌, Bool, ◌==◌, List, [], ◌∷◌}
+use Rattle.std.specs.Prelude.{ℕ, ◌+◌, ◌-◌, ◌*◌, ◌/◌, ◌%◌, ◌^◌, Bool, ◌==◌, List}
+use Rattle.std.specs.Int.{to_le_bytes, w32}
 
 -- bits high to low of a word, as a number
 abbrev pub bits : ℕ → ℕ → ℕ → ℕ
@@ -15,7 +16,7 @@ word_of_bytes a b c d = a + 256 * b + 65536 * c + 16777216 * d
 
 -- the four bytes of a 32-bit word, the lowest first
 abbrev pub bytes_of_word : ℕ → List ℕ
-bytes_of_word word = word % 256 ∷ word / 256 % 256 ∷ word / 65536 % 256 ∷ word / 16777216 ∷ []
+bytes_of_word word = to_le_bytes w32 word
 
 -- a sum of words, modulo 2^32
 abbrev pub add_words : ℕ → ℕ → ℕ

@@ -75,14 +75,18 @@ kind_of word = find (λ kind. matches kind word) kinds
 
 -- The resources are r0 to r14 and, as number 15, the flags as one. A set of them is a number with a bit for each.
 
+-- a register as a resource; pc is none
+abbrev pub register_bit : ℕ → ℕ
+register_bit register = if register == 15 then 0 else 2 ^ register
+
 -- what an instruction reads
 abbrev pub reads_by : ℕ → Kind → ℕ
-reads_by word AluImmediate = if opcode word == mov then 0 else 2 ^ rn word
+reads_by word AluImmediate = if opcode word == mov then 0 else register_bit (rn word)
 reads_by word Svc = 0
 
 -- what an instruction writes
 abbrev pub writes_by : ℕ → Kind → ℕ
-writes_by word AluImmediate = 2 ^ rd word
+writes_by word AluImmediate = register_bit (rd word)
 writes_by word Svc = 0
 
 -- the unit that it takes

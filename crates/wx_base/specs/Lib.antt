@@ -4,6 +4,7 @@ pub mod MemSink
 pub mod MemStore
 pub mod Host
 pub mod Decimal
+pub mod Hexadecimal
 pub mod Cursor
 pub mod Symbols
 pub mod Bits

@@ -10,7 +10,7 @@ pub record HeldFile : Type 0 where
   pub bytes : List ℕ
 
 -- the files, the numbers of the calls that are to fail, and how many calls, reads and faults there were
-pub record Shelf : Type 0 where
+pub record MemStoreView : Type 0 where
   pub files : List HeldFile
   pub failing : List ℕ
   pub calls : ℕ

@@ -4,7 +4,7 @@ use Rattle.std.specs.List.{Contains}
 use Rattle.wx_base.specs.Outside.{last_count}
 
 -- The calls of a device that are to fail, by their numbers from 1, and how many calls there were.
-pub record Plan : Type 0 where
+pub record OutagePlan : Type 0 where
   pub failing : List ℕ
   pub calls : ℕ
 

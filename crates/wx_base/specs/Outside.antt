@@ -48,12 +48,12 @@ IsMissing holds name = IsSomeAnd holds (λ contents. contents name ≡ None)
 -- bytes that were handed over.
 abbrev pub ReadGives : Option Contents → List ℕ → ℕ → ℕ → List ℕ → Result (Unit {0}) StoreFault → Type 0
 ReadGives holds name before after bytes (Ok _) =
-    (after ≡ before) × (length bytes ≤ longest_file) × IsWhole holds name bytes
+    (length bytes ≤ longest_file) × IsWhole holds name bytes
 ReadGives holds name before after bytes (Err store_fault.Failed) = Rose before after × IsBegun holds name bytes
 ReadGives holds name before after bytes (Err store_fault.Missing) =
-    (after ≡ before) × (bytes ≡ []) × IsMissing holds name
-ReadGives holds name before after bytes (Err store_fault.Long) = (after ≡ before) × IsCut holds name bytes
-ReadGives holds name before after bytes (Err store_fault.NoMemory) = (after ≡ before) × IsBegun holds name bytes
+    (bytes ≡ []) × IsMissing holds name
+ReadGives holds name before after bytes (Err store_fault.Long) = IsCut holds name bytes
+ReadGives holds name before after bytes (Err store_fault.NoMemory) = IsBegun holds name bytes
 
 -- no name but this one changed, and a store that tells its contents goes on telling them
 abbrev pub ChangesOnly : Option Contents → Option Contents → List ℕ → Type 0
@@ -63,9 +63,9 @@ ChangesOnly _ _ name = ⊥
 
 -- What a write of bytes under a name may answer: from the contents and the count of write faults before and after.
 abbrev pub WriteGives : Option Contents → Option Contents → List ℕ → List ℕ → ℕ → ℕ → Result (Unit {0}) StoreFault → Type 0
-WriteGives old new name bytes before after (Ok _) = (after ≡ before) × IsWhole new name bytes
+WriteGives old new name bytes before after (Ok _) = IsWhole new name bytes
 WriteGives old new name bytes before after (Err store_fault.Failed) = Rose before after
-WriteGives old new name bytes before after (Err store_fault.NoMemory) = (after ≡ before) × (new ≡ old)
+WriteGives old new name bytes before after (Err store_fault.NoMemory) = new ≡ old
 WriteGives old new name bytes before after (Err _) = ⊥
 
 -- What a sink may answer to a piece: how many of its first bytes it took, at least one if there are any; else none.

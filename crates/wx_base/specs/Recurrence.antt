@@ -1,7 +1,7 @@
 -- When instructions take place on the pipeline. This project's own.
 --
--- The past of an instruction is the list of those before it, the last one first, each with its six times. Behind the
--- past stands a start: the 35 slots of a vector, or an empty list where the pipeline was empty. What is read past the
+-- The past of an instruction is the list of those before it, the last one first, each with its six times. Before the
+-- past stands a vector to start from: the 35 slots of a vector, or an empty list where the pipeline was empty. What is read past the
 -- end of a list is 0, so that a time of an instruction before an empty start is 0.
 use Rattle.std.specs.Prelude.{ℕ, zero, suc, ◌+◌, ◌-◌, Bool, true, false, nat_le, if◌then◌else◌, List, [], ◌∷◌, ◌++◌, map, max, slice_index}
 use Rattle.wx_base.specs.declared.machine.Machine.{Machine}
@@ -119,7 +119,8 @@ fe_of m start past e f = max (f + m.hit + when e.miss m.miss) (ago 1 (fe_back st
 abbrev pub d_of : Machine → List ℕ → List Done → ℕ → ℕ
 d_of m start past fe = max (max fe (ago 1 (d_back start past))) (ago m.width (x_back start past))
 
--- The start: behind decoding, in order, at most w in a cycle, where the unit is free and all that is read is there.
+-- Its unit starts it: after decoding, in order, at most w in a cycle, where the unit is free and all that is read is
+-- there.
 abbrev pub x_of : Machine → List ℕ → List Done → Entry → ℕ → ℕ
 x_of m start past e d =
     max (max (max (d + 1) (ago 1 (x_back start past))) (ago m.width (x_back start past) + 1))

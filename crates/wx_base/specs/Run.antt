@@ -1,18 +1,18 @@
 -- Runs of an image on the written machine, and how long they take. This project's own.
-use Rattle.std.specs.Prelude.{◌≡◌, ◌≢◌, ℕ, zero, suc, ◌<◌, ◌^◌, Bool, false, not, List, [], ◌∷◌, Option, Some, None}
+use Rattle.std.specs.Prelude.{◌≡◌, ◌≢◌, ℕ, zero, suc, ◌<◌, ◌^◌, Bool, false, not, List, [], ◌∷◌, Option, Some, None, Result, Ok, Err}
 use Rattle.wx_base.specs.declared.machine.Machine.{Machine}
 use Rattle.wx_base.specs.Image.{Image, byte_of}
-use Rattle.wx_base.specs.State.{State, pc, current_word, step, Why, Outcome, Next, Ended, Stopped}
+use Rattle.wx_base.specs.State.{State, pc, current_word, step, Went, Why, Outcome, Next, Ended, Stopped}
 use Rattle.wx_base.specs.Cache.{Lines, IsCache, line_of, holds_line, accessed}
 use Rattle.wx_base.specs.Recurrence.{Entry, Done, next, completion}
-use Rattle.wx_base.specs.Monitor.{Frame, Breach, first_frame, at_address, breach_of}
+use Rattle.wx_base.specs.Monitor.{Frame, Breach, first_frame, passed, judged}
 
 -- a start: registers, flags and memory, and the instruction cache
 pub record Start : Type 0 where
   pub state : State
   pub cache : Lines
 
--- The starts of a run of the image from an entry: any registers but the address, any flags, a memory that has the
+-- The starts of a run of the image from an entry: any registers but pc, any flags, a memory that has the
 -- image's bytes where its segments are and any bytes elsewhere, and any cache of the machine's shape.
 pub record IsStart (machine : Machine) (image : Image) (entry : ℕ) (start : Start) : Type 0 where
   pub entered : start.state.registers pc ≡ entry
@@ -30,23 +30,32 @@ pub data End : Type 0 where
   -- the move to the next instruction breaks a fact
   Broken : Breach → End
 
--- A run so far: where it is, what it has executed, the last instruction first, and its end if it has come to one.
+-- A run so far: where it is; what it has executed and at which addresses, the last instruction first; the frames of its
+-- open calls; and its end if it has come to one.
 pub record Run : Type 0 where
   pub state : State
   pub cache : Lines
   pub past : List Done
+  pub addresses : List ℕ
   pub frames : List Frame
   pub end : Option End
 
 -- nothing was executed
 abbrev pub begun : ℕ → Start → Run
 begun entry start =
-    record { state = start.state; cache = start.cache; past = []; frames = first_frame entry; end = None }
+    record {
+      state = start.state;
+      cache = start.cache;
+      past = [];
+      addresses = [];
+      frames = first_frame entry;
+      end = None;
+    }
 
--- the rule that the move to the instruction at pc breaks; the first instruction of a run is reached by no move
-abbrev pub breach_before : List Done → List Frame → ℕ → Option Breach
-breach_before [] frames to = None
-breach_before (i ∷ past) frames to = breach_of frames to i.entry.word
+-- the frames with which the machine looks at the instruction at pc; a run's first instruction is reached by no move
+abbrev pub frames_before : List Done → List Frame → ℕ → Result (List Frame) Breach
+frames_before [] frames to = Ok frames
+frames_before (i ∷ past) frames to = judged frames i.entry to
 
 -- the instruction at pc, as it is executed now
 abbrev pub entry_at : Machine → Run → Bool → Bool → Entry
@@ -59,32 +68,34 @@ entry_at m run taken slow =
     }
 
 -- the run with this instruction executed, the state after it, and the end if it ends the run
-abbrev pub extended : Machine → Run → Entry → State → Option End → Run
-extended m run e state end =
+abbrev pub extended : Machine → Run → List Frame → Entry → State → Option End → Run
+extended m run frames e state end =
     record {
       state = state;
       cache = accessed m.shape run.cache (line_of m.shape (run.state.registers pc));
       past = record { entry = e; times = next m [] run.past e } ∷ run.past;
-      frames = at_address (run.state.registers pc) run.frames;
+      addresses = run.state.registers pc ∷ run.addresses;
+      frames = passed frames (run.state.registers pc);
       end = end;
     }
 
 -- the run after the machine looked at the instruction at pc
-abbrev pub after_outcome : Machine → Run → Outcome → Run
-after_outcome m run (Next state taken slow) = extended m run (entry_at m run taken slow) state None
-after_outcome m run Ended = extended m run (entry_at m run false false) run.state (Some Finished)
-after_outcome m run (Stopped why) = record run { end = Some (Halted why) }
+abbrev pub after_outcome : Machine → Run → List Frame → Outcome → Run
+after_outcome m run frames (Next went) =
+    extended m run frames (entry_at m run went.taken went.slow) went.state None
+after_outcome m run frames Ended = extended m run frames (entry_at m run false false) run.state (Some Finished)
+after_outcome m run frames (Stopped why) = record run { end = Some (Halted why) }
 
 -- the run after the move to pc was judged
-abbrev pub after_judgement : Machine → Image → Run → Option Breach → Run
-after_judgement m image run (Some breach) = record run { end = Some (Broken breach) }
-after_judgement m image run None = after_outcome m run (step image run.state)
+abbrev pub after_judgement : Machine → Image → Run → Result (List Frame) Breach → Run
+after_judgement m image run (Err breach) = record run { end = Some (Broken breach) }
+after_judgement m image run (Ok frames) = after_outcome m run frames (step m image run.state)
 
 -- one more step of a run that has not ended
 abbrev pub advanced : Machine → Image → Run → Option End → Run
 advanced m image run (Some end) = run
 advanced m image run None =
-    after_judgement m image run (breach_before run.past run.frames (run.state.registers pc))
+    after_judgement m image run (frames_before run.past run.frames (run.state.registers pc))
 
 -- The run of at most n instructions. It is shorter only where it has come to an end.
 unfoldable pub run_of : Machine → Image → ℕ → Start → ℕ → Run
@@ -92,7 +103,8 @@ run_of m image entry start zero = begun entry start
 run_of m image entry start (suc n) =
     let run = run_of m image entry start n in advanced m image run run.end
 
--- no move between two of its instructions breaks a fact
+-- No move that was judged breaks a fact: the moves between the run's instructions, and the one to the instruction that
+-- the machine looked at last.
 abbrev pub Obeys : Run → Type 0
 Obeys run = (breach : Breach) → run.end ≢ Some (Broken breach)
 

@@ -1,6 +1,7 @@
 -- What an instruction does to registers, flags and memory. ARM Architecture Reference Manual; where the machine stops
 -- is this project's own.
 use Rattle.std.specs.Prelude.{ℕ, ◌*◌, Bool, false, ◌==◌, if◌then◌else◌, Option, Some, None}
+use Rattle.wx_base.specs.declared.machine.Machine.{Machine}
 use Rattle.wx_base.specs.Bits.{word_of_bytes, add_words, sub_words, rotated_right}
 use Rattle.wx_base.specs.Instruction.{Kind, AluImmediate, Svc, kind_of, opcode, rn, rd, rotation, immediate, sub, add}
 use Rattle.wx_base.specs.Image.{Image, is_code_word}
@@ -42,10 +43,16 @@ pub data Why : Type 0 where
   -- a byte of code would be written
   Store : Why
 
+-- where the machine goes on: the state, whether the instruction jumped, and whether it was slow
+pub record Went : Type 0 where
+  pub state : State
+  pub taken : Bool
+  pub slow : Bool
+
 -- what the machine does with the instruction at pc
 pub data Outcome : Type 0 where
-  -- it goes on in a state; whether the instruction jumped, and whether it was slow
-  Next : State → Bool → Bool → Outcome
+  -- it goes on
+  Next : Went → Outcome
   -- the instruction was executed and ends the run
   Ended : Outcome
   -- nothing was executed
@@ -55,7 +62,11 @@ pub data Outcome : Type 0 where
 abbrev pub immediate_operand : ℕ → ℕ
 immediate_operand word = rotated_right (immediate word) (2 * rotation word)
 
--- what a data-processing instruction computes of its two operands
+-- what an instruction reads of a register: of pc, the address of the instruction after the next
+abbrev pub value_of : (ℕ → ℕ) → ℕ → ℕ
+value_of registers register = if register == pc then add_words (registers pc) 8 else registers register
+
+-- What a data-processing instruction computes of its two operands. The table has no opcode but these three.
 abbrev pub alu_result : ℕ → ℕ → ℕ → ℕ
 alu_result op first second =
     if op == sub then sub_words first second else (if op == add then add_words first second else second)
@@ -63,23 +74,29 @@ alu_result op first second =
 -- registers after a data-processing instruction that does not write pc
 abbrev pub alu_registers : (ℕ → ℕ) → ℕ → ℕ → ℕ
 alu_registers registers word =
-    replaced (replaced registers (rd word) (alu_result (opcode word) (registers (rn word)) (immediate_operand word)))
+    replaced
+    (replaced registers (rd word)
+    (alu_result (opcode word) (value_of registers (rn word)) (immediate_operand word)))
     pc (add_words (registers pc) 4)
 
 -- the outcome of a word by its row
-abbrev pub executed : State → ℕ → Option Kind → Outcome
-executed state word None = Stopped Word
-executed state word (Some AluImmediate) =
-    Next (record { registers = alu_registers state.registers word; flags = state.flags; memory = state.memory }) false false
-executed state word (Some Svc) = Ended
+abbrev pub executed : Machine → State → ℕ → Option Kind → Outcome
+executed machine state word None = Stopped Word
+executed machine state word (Some AluImmediate) =
+    Next (record {
+      state = record { registers = alu_registers state.registers word; flags = state.flags; memory = state.memory };
+      taken = false;
+      slow = false;
+    })
+executed machine state word (Some Svc) = Ended
 
 -- the word that the machine looks at
 abbrev pub current_word : State → ℕ
 current_word state = word_in state.memory (state.registers pc)
 
 -- one step of the machine
-unfoldable pub step : Image → State → Outcome
-step image state =
+unfoldable pub step : Machine → Image → State → Outcome
+step machine image state =
     if is_code_word image (state.registers pc)
-    then executed state (current_word state) (kind_of (current_word state))
+    then executed machine state (current_word state) (kind_of (current_word state))
     else Stopped Fetch

@@ -24,8 +24,8 @@ pub record Covers (a b : List ℕ) : Type 0 where
 pub record AreWithin (bound : ℕ) (slots : List ℕ) : Type 0 where
   pub each : (k : ℕ) → slot slots k ≤ bound
 
--- The machine reads the slot: with width 1 it does not look at the instruction before the last, and it looks no
--- further back in decoding than its queue is long.
+-- The machine reads the slot: with width 1 it looks at the fetch end, start and completion of the last instruction
+-- alone, and it looks no further back in decoding than its queue is long.
 abbrev pub is_used : Machine → ℕ → Bool
 is_used m k =
     nat_le (k + 1) slot_count

@@ -34,18 +34,43 @@ impl File {
         &self.bytes
     }
 
-    /// Whether the file has this name.
-    pub fn is_named(&self, name: &str) -> bool
+    // Whether the file has this name.
+    pub(crate) fn is_named(&self, name: &str) -> bool
         ensures { IsTrue result ↔ (self.now.name ≡ name.now) }
     {
         self.name.as_str() == name
     }
 
-    /// Gives the file another content.
-    pub fn set_bytes(&mut self, bytes: Vec<u8>)
+    /// Gives the name and the content back. Takes no memory.
+    pub fn into_parts(self) -> (String, Vec<u8>)
+        ensures name { string_bytes result.0 ≡ self.name }
+        ensures bytes { result.1.items ≡ self.bytes }
+    {
+        let File { name, bytes } = self;
+        (name, bytes)
+    }
+
+    // Gives the file another content.
+    pub(crate) fn set_bytes(&mut self, bytes: Vec<u8>)
         ensures name { self.new.name ≡ self.old.name }
         ensures bytes { self.new.bytes ≡ bytes.items }
     {
         self.bytes = bytes;
+    }
+}
+
+#[cfg(test)]
+mod tests {
+    use super::*;
+    use std::test::Fail;
+
+    #[test]
+    fn gives_its_parts_back(rt: HostRuntime) -> Result<(), Fail> {
+        let name = String::from_str(rt.alloc(), "name")?;
+        let bytes = b"bytes".to_vec(rt.alloc())?;
+        let (name, bytes) = File::new(name, bytes).into_parts();
+        assert_eq!(rt; name.as_str(), "name");
+        assert_eq!(rt; bytes.as_slice(), b"bytes".as_slice());
+        Ok(())
     }
 }

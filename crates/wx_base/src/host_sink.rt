@@ -1,4 +1,4 @@
-ghost use Rattle.std.specs.Prelude.{◌≤◌, ℕ, length, None, IfOk};
+ghost use Rattle.std.specs.Prelude.{◌≡◌, ◌≤◌, ℕ, length, None, IfOk};
 
 use crate::sink::{Sink, SinkFault};
 use std::io;
@@ -16,6 +16,7 @@ pub struct HostSink<P: Print> {
     faults: u64,
 }
 
+// Contracts see how often it failed.
 impl<P: Print> Model for HostSink<P> {
     ghost Value = { ℕ };
 
@@ -24,7 +25,9 @@ impl<P: Print> Model for HostSink<P> {
 
 impl<P: Print> HostSink<P> {
     /// A sink that prints to this output, as `HostSink::new(&rt)`.
-    pub fn new(output: P) -> HostSink<P> {
+    pub fn new(output: P) -> HostSink<P>
+        ensures { result ≡ 0 }
+    {
         HostSink { output, faults: 0 }
     }
 }
@@ -36,6 +39,7 @@ impl<P: Print> Sink for HostSink<P> {
 
     ghost reliable = { λ _. ⊥ };
 
+    /// Writes once, and says how much the device took.
     fn put(&mut self, piece: &[u8]) -> Result<usize, SinkFault> {
         match write_some(&self.output, piece) {
             Ok(n) if n > 0 || piece.is_empty() => Ok(n),

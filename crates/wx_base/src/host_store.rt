@@ -1,4 +1,4 @@
-ghost use Rattle.std.specs.Prelude.{◌≤◌, None};
+ghost use Rattle.std.specs.Prelude.{◌≡◌, None};
 
 use crate::store::{LONGEST_FILE, Store, StoreFault};
 use std::io::{Read, Write};
@@ -8,7 +8,8 @@ use std::{fs, io};
 
 /// The files of the system: a trusted edge, which tells nothing of what they hold.
 ///
-/// A file that is not there is an error of the system, as any other.
+/// Its names are paths. Each error of the system is a fault of the read or the write that met it, also that
+/// there is no such file, and only want of memory is none.
 #[derive(Drop)]
 pub struct HostStore<R: Files> {
     files: R,
@@ -27,7 +28,11 @@ impl<R: Files> Model for HostStore<R> {
 
 impl<R: Files> HostStore<R> {
     /// A store over these files, as `HostStore::new(&rt)`.
-    pub fn new(files: R) -> HostStore<R> {
+    pub fn new(files: R) -> HostStore<R>
+        ensures asked { result.asked ≡ 0 }
+        ensures read_faults { result.read_faults ≡ 0 }
+        ensures write_faults { result.write_faults ≡ 0 }
+    {
         HostStore {
             files,
             asked: 0,
@@ -48,6 +53,7 @@ impl<R: Files> Store for HostStore<R> {
 
     ghost reliable = { λ _. ⊥ };
 
+    /// Reads in large pieces, and no further than one byte past the greatest length.
     fn read(&mut self, name: &str, into: &mut Vec<u8>) -> Result<(), StoreFault> {
         self.asked = self.asked.saturating_add(1);
         match read_front(&self.files, name, into) {
@@ -64,6 +70,7 @@ impl<R: Files> Store for HostStore<R> {
         }
     }
 
+    /// Makes the file, or cuts it to nothing, and writes the bytes.
     fn write(&mut self, name: &str, bytes: &[u8]) -> Result<(), StoreFault> {
         let answer = match fs::create(&self.files, name) {
             Err(error) if is_want_of_memory(&error) => return Err(StoreFault::NoMemory),

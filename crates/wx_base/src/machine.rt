@@ -81,9 +81,9 @@ impl Regions {
 /// A written machine: its pipeline, its memory's regions and its instruction cache.
 #[derive(Debug, Drop)]
 pub struct Machine {
-    /// How many instructions a stage takes in a cycle, 1 or 2.
+    /// How many instructions a stage holds at once, 1 or 2.
     pub width: u8,
-    /// How many instructions the fetch queue holds, 1 to 8.
+    /// How many instructions are fetched or wait for decoding at once, 1 to 8.
     pub queue: u8,
     /// Cycles of a fetch that hits.
     pub hit: u64,
@@ -95,7 +95,7 @@ pub struct Machine {
     pub regions: Regions,
     /// The instruction cache.
     pub shape: Shape,
-    /// How far behind the next instruction's earliest time the analysis tells times apart, in cycles.
+    /// How many cycles past the earliest next fetch the analysis tells times apart.
     pub horizon: u64,
     /// How many vectors the analysis keeps at a node before it joins them.
     pub states: u32,
@@ -104,7 +104,7 @@ pub struct Machine {
 impl Machine {
     ghost use Rattle.wx_base.specs.Machine.{m1, IsMachine};
 
-    /// The machine that the examples speak of, and that a bound is for where no description is given.
+    /// The machine that the examples speak of, and that `flat` takes.
     pub fn m1(alloc: Global) -> Machine
         ensures value { result ≡ m1 }
         ensures in_range { IsMachine result }

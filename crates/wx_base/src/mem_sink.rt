@@ -18,9 +18,9 @@ pub struct MemSink {
 }
 
 impl Model for MemSink {
-    ghost use Rattle.wx_base.specs.MemSink.{Tape};
+    ghost use Rattle.wx_base.specs.MemSink.{MemSinkView};
 
-    ghost Value = { Tape };
+    ghost Value = { MemSinkView };
 
     ghost view = { λ s. record { bytes = s.bytes.items; failing = s.outages.failing; calls = s.outages.calls; faults = s.faults } };
 }

@@ -24,9 +24,9 @@ pub struct MemStore {
 }
 
 impl Model for MemStore {
-    ghost use Rattle.wx_base.specs.MemStore.{Shelf};
+    ghost use Rattle.wx_base.specs.MemStore.{MemStoreView};
 
-    ghost Value = { Shelf };
+    ghost Value = { MemStoreView };
 
     ghost view = { λ s. record { files = s.files.items; failing = s.outages.failing; calls = s.outages.calls; asked = s.asked; read_faults = s.read_faults; write_faults = s.write_faults } };
 }
@@ -79,6 +79,7 @@ impl Store for MemStore {
         ensures outcome { ReadGives (Some (held self.old.files)) name.now self.old.read_faults self.new.read_faults into.new.items result }
         ensures fails { (result ≡ Err StoreFault.Failed) ↔ FailsAt self.old.failing (counted self.old.calls) }
         ensures counts { result ≡ Err StoreFault.Failed → self.new.read_faults ≡ counted self.old.read_faults }
+        ensures quiet { result ≢ Err StoreFault.Failed → self.new.read_faults ≡ self.old.read_faults }
         ensures asked { self.new.asked ≡ counted self.old.asked }
         ensures read_faults { self.old.read_faults ≤ self.new.read_faults }
         ensures write_faults { self.new.write_faults ≡ self.old.write_faults }
@@ -108,6 +109,7 @@ impl Store for MemStore {
         ensures kept { OnErr result (self.new.files ≡ self.old.files) }
         ensures fails { (result ≡ Err StoreFault.Failed) ↔ FailsAt self.old.failing (counted self.old.calls) }
         ensures counts { result ≡ Err StoreFault.Failed → self.new.write_faults ≡ counted self.old.write_faults }
+        ensures quiet { result ≢ Err StoreFault.Failed → self.new.write_faults ≡ self.old.write_faults }
         ensures asked { self.new.asked ≡ self.old.asked }
         ensures read_faults { self.new.read_faults ≡ self.old.read_faults }
         ensures write_faults { self.old.write_faults ≤ self.new.write_faults }

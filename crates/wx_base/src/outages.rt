@@ -12,9 +12,9 @@ pub(crate) struct Outages {
 }
 
 impl Model for Outages {
-    ghost use Rattle.wx_base.specs.Outages.{Plan};
+    ghost use Rattle.wx_base.specs.Outages.{OutagePlan};
 
-    ghost Value = { Plan };
+    ghost Value = { OutagePlan };
 
     ghost view = { λ s. record { failing = s.failing.items; calls = s.calls } };
 }

@@ -13,7 +13,8 @@ pub enum SinkFault {
 /// Where the program's text goes.
 ///
 /// Its meanings: the bytes `taken` so far, where the sink tells them, and its `faults`, a counter of 64
-/// bits that never falls and stays at 2^64 - 1. A sink that is `reliable` stays so, and no call of it fails.
+/// bits that never falls and stays at 2^64 - 1. A sink that is `reliable` stays so, and no call of it answers
+/// [`SinkFault::Failed`].
 pub trait Sink {
     ghost taken: { Self → Option (List ℕ) };
 

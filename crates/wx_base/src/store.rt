@@ -2,12 +2,12 @@ ghost use Rattle.std.specs.Prelude.{◌≡◌, ◌≢◌, ℕ, ◌≤◌, List, 
 ghost use Rattle.wx_base.specs.Outside.{Contents, counted, ReadGives, WriteGives, ChangesOnly};
 
 /// The greatest length of a file, in bytes.
-pub const LONGEST_FILE: usize = 16_777_216;
+pub(crate) const LONGEST_FILE: usize = 16_777_216;
 
 /// Why a store did not do what it was asked.
 #[derive(Clone, Copy, Debug, PartialEq, Eq)]
 pub enum StoreFault {
-    /// The device failed, and the store counted a fault. Only here may a count of faults rise.
+    /// The device failed, and the store counted a fault.
     Failed,
     /// The store tells its contents and does not hold the name. Never of a write.
     Missing,
@@ -23,7 +23,7 @@ pub enum StoreFault {
 /// `asked` to read; and its `read_faults` and `write_faults`. The three counters have 64 bits: they never
 /// fall, and one that has come to 2^64 - 1 stays there. "The faults rose" means that the counter is
 /// greater than before, or stands at that last value. A store that is `reliable` stays so, and no call of it
-/// fails; a store that cannot promise this is never reliable.
+/// answers [`StoreFault::Failed`]; a store that cannot promise this is never reliable.
 pub trait Store {
     ghost holds: { Self → Option Contents };
 

@@ -3,9 +3,9 @@
 pub struct Times {
     /// Its fetch begins.
     pub f: u64,
-    /// Its fetch ends, and it stands in the queue.
+    /// Its fetch ends.
     pub fe: u64,
-    /// It leaves the queue and is decoded.
+    /// It is decoded, and its place in the queue is free.
     pub d: u64,
     /// Its unit starts it.
     pub x: u64,

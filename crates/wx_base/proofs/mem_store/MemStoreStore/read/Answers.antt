@@ -9,4 +9,4 @@ returns-then-next_fails-clause-fails c =
 
 pub returns-in-Some-clause-outcome : goal.returns-in-Some-clause-outcome
 returns-in-Some-clause-outcome c =
-    rw (← c.self.view_is) (read-known (held c.self.inside.files.items) _ _ _ _ _ c.hand_over.result (sym c.in-Some.ensures) refl c.hand_over.ensures)
+    rw (← c.self.view_is) (read-known (held c.self.inside.files.items) _ _ _ _ _ c.hand_over.result (sym c.in-Some.ensures) c.hand_over.ensures)

@@ -1,0 +1,4 @@
+pub mod Entries
+pub mod Windows
+pub mod Growth
+pub mod Order

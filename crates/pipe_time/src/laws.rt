@@ -1,0 +1,47 @@
+//! Laws of the recurrence. Each function does nothing: its contract is the law, for every machine, start and list.
+
+ghost use Rattle.pipe_time.specs.Windows.{WindowGivesTimes, WindowGivesWindow, ZeroIsNothing, NothingIsZero, ZeroStays, SteppingIsTheRecurrence};
+ghost use Rattle.pipe_time.specs.Order.{WorseIsNoFaster, WorseCompletesNoEarlier, WorseStaysCovering, DelayIsPassedOn, DelayOfCompletion, DelayOfSlots, MissingIsTheLongest, ShiftMovesTimes, ShiftMovesCompletion};
+ghost use Rattle.pipe_time.specs.Growth.{TimesGrowLittle, SlotsGrowLittle};
+
+/// A vector is all that times depend on: continuing from the window on a past gives what continuing from the past
+/// gives, and stepping through a list of instructions from the zero vector gives the six times of the recurrence.
+pub fn windows_follow_the_past()
+    ensures times { WindowGivesTimes }
+    ensures slots { WindowGivesWindow }
+    ensures zero { ZeroIsNothing }
+    ensures nothing { NothingIsZero }
+    ensures stays { ZeroStays }
+    ensures stepping { SteppingIsTheRecurrence }
+{}
+
+/// One instruction raises the greatest slot by at most 4,016 cycles.
+pub fn growth()
+    ensures times { TimesGrowLittle }
+    ensures slots { SlotsGrowLittle }
+{}
+
+/// From a covering vector, over the same instructions with at least as many misses and slow ones, no time is earlier.
+pub fn worse_is_no_faster()
+    ensures times { WorseIsNoFaster }
+    ensures completion { WorseCompletesNoEarlier }
+    ensures slots { WorseStaysCovering }
+{}
+
+/// A start whose slots are at most some cycles later makes every time at most that much later.
+pub fn delay_is_passed_on()
+    ensures times { DelayIsPassedOn }
+    ensures completion { DelayOfCompletion }
+    ensures slots { DelayOfSlots }
+{}
+
+/// From the empty pipeline no choice of hits and misses takes longer than missing at every fetch.
+pub fn every_fetch_missing_is_the_longest()
+    ensures { MissingIsTheLongest }
+{}
+
+/// A start that is later by some cycles in each slot that the machine uses makes every time later by exactly those.
+pub fn a_shift_moves_all_times()
+    ensures times { ShiftMovesTimes }
+    ensures completion { ShiftMovesCompletion }
+{}

@@ -1,0 +1,19 @@
+//! Vectors and the recurrence of the pipeline: how one instruction moves a vector on, and the laws of time.
+#![tactic(auto)]
+
+mod equations;
+mod laws;
+mod recurrence;
+mod units;
+mod vector;
+
+pub use laws::{
+    a_shift_moves_all_times, delay_is_passed_on, every_fetch_missing_is_the_longest, growth,
+    windows_follow_the_past, worse_is_no_faster,
+};
+pub use recurrence::advance;
+pub use vector::{Entry, Vector};
+pub use wx_base::Times;
+
+#[cfg(test)]
+mod tests;

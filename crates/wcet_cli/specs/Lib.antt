@@ -1,0 +1,4 @@
+pub mod Straight
+pub mod Refusal
+pub mod Reply
+pub mod Call

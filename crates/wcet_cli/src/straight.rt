@@ -1,0 +1,61 @@
+ghost use Rattle.std.specs.Prelude.{◌≡◌, ℕ, ◌≤◌, ◌<◌, ◌^◌, ◌++◌, List, length, IfOk, IfErr, MatchOption};
+ghost use Rattle.wx_base.specs.Bits.{bytes_of_word};
+ghost use Rattle.wx_base.specs.Machine.{m1, IsMachine};
+ghost use Rattle.wcet_cli.specs.Straight.{IsProgram, bound_of};
+ghost use Rattle.wcet_cli.specs.Refusal.{HasFault};
+
+use arm_code::{Op, decode};
+use pipe_time::{Entry, Vector, advance, windows_follow_the_past};
+use wx_base::Machine;
+
+/// Where the first word is placed.
+const ORIGIN: u32 = 0x8000;
+
+/// Why bytes are no straight program.
+#[derive(Clone, Copy, Debug, PartialEq, Eq)]
+pub enum Refusal {
+    /// Fewer than four bytes are left at this address.
+    LeavesCode { addr: u32 },
+    /// This word is neither a plain one nor a call of the supervisor.
+    Unsupported { addr: u32, word: u32 },
+}
+
+/// The cycles that a straight program takes if each fetch misses: the bytes are little-endian words from 0x8000 on, up
+/// to the first call of the supervisor. Linear in the words up to there, and takes no memory.
+pub fn bound_of_bytes(machine: &Machine, bytes: &[u8]) -> Result<u64, Refusal>
+    requires machine { IsMachine machine.now }
+    requires size { length bytes.now ≤ 16777216 }
+    ensures bound { IfOk result (λ cycles. (program : List ℕ) × IsProgram bytes.now program × (cycles ≡ bound_of machine.now program)) }
+    ensures fault { IfErr result (HasFault bytes.now) }
+{
+    windows_follow_the_past();
+    let mut pipeline = Vector::zero();
+    let mut addr = ORIGIN;
+    let mut rest = bytes;
+    while let Some((word, behind)) = split_word(rest) {
+        let Some(insn) = decode(word) else {
+            return Err(Refusal::Unsupported { addr, word });
+        };
+        let entry = Entry {
+            insn,
+            miss: true,
+            slow: false,
+            taken: false,
+        };
+        let times = advance(&mut pipeline, &entry, machine);
+        if let Op::Svc { .. } = insn.op {
+            return Ok(times.c);
+        }
+        addr += 4;
+        rest = behind;
+    }
+    Err(Refusal::LeavesCode { addr })
+}
+
+/// The little-endian word that begins the bytes, and what stands behind it; None where there are fewer than four bytes.
+fn split_word(bytes: &[u8]) -> Option<(u32, &[u8])>
+    ensures { MatchOption result (length bytes.now < 4) (λ x. (bytes.now ≡ bytes_of_word x.0 ++ x.1.now) × (x.0 < 2 ^ 32)) }
+{
+    let (word, rest) = bytes.split_first_chunk::<4>()?;
+    Some((u32::from_le_bytes(*word), rest))
+}
