@@ -1,2 +1,5 @@
 pub mod Words
 pub mod SoFar
+pub mod RowsOf
+pub mod Putting
+pub mod TwoWords

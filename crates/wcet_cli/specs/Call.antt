@@ -1,6 +1,8 @@
 -- What a call of the program means: which reply has its cause, and how the reply is handed over. This project's own.
-use Rattle.std.specs.Prelude.{◌≡◌, ◌≢◌, ◌⊎◌, ℕ, ◌+◌, ◌<◌, ◌≤◌, List, [], ◌∷◌, ◌++◌, length, map, string_bytes, codes, Option}
+use Rattle.std.specs.Prelude.{◌≡◌, ◌≢◌, ◌⊎◌, ℕ, ◌+◌, ◌<◌, ◌≤◌, List, [], ◌∷◌, ◌++◌, length, map, codes, Option, Result, Ok, Err}
 use Rattle.std.specs.Option.{option_map}
+use Rattle.wx_base.specs.declared.sink.SinkFault.{SinkFault}
+use Rattle.wx_base.specs.declared.sink.SinkFault.TheVariants as sink_fault
 use Rattle.wx_base.specs.Machine.{m1}
 use Rattle.wx_base.specs.Outside.{Contents, Rose, IsWhole, IsCut, IsMissing}
 use Rattle.wcet_cli.specs.Straight.{IsProgram, IsCutOff, IsForeign, bound_of}
@@ -16,25 +18,29 @@ IsFlat words name = words ≡ codes "flat" ∷ name ∷ []
 abbrev pub FitsForm : List (List ℕ) → Type 0
 FitsForm words = (name : List ℕ) × IsFlat words name
 
--- how many files a command reads: the words behind its name, if they fit
+-- how many files a command may read
 abbrev pub input_files : ℕ
 input_files = 1
 
--- The cause of each reply. The contents are those that the store tells as the call begins, and the two numbers are its
--- counts of read faults before and after. Of a store that tells nothing the bytes are some bytes.
-abbrev pub HasCause : Option Contents → ℕ → ℕ → List (List ℕ) → Reply → Type 0
-HasCause holds before after words (reply.Bound cycles) =
-    (name bytes program : List ℕ) × IsFlat words name × IsWhole holds name bytes × IsProgram bytes program
-    × (cycles ≡ bound_of m1 program)
-HasCause holds before after words reply.Usage = ¬ FitsForm words
-HasCause holds before after words (reply.Unreadable name) = IsFlat words name × Rose before after
-HasCause holds before after words (reply.Missing name) = IsFlat words name × IsMissing holds name
-HasCause holds before after words (reply.LeavesCode addr) =
-    (name bytes : List ℕ) × IsFlat words name × IsWhole holds name bytes × IsCutOff bytes addr
-HasCause holds before after words (reply.Unsupported addr word) =
-    (name bytes : List ℕ) × IsFlat words name × IsWhole holds name bytes × IsForeign bytes addr word
-HasCause holds before after words (reply.LongFile name) =
-    IsFlat words name × ((bytes : List ℕ) × IsCut holds name bytes)
+-- The cause of each reply to `flat` and a name. The contents are those that the store tells as the call begins, and the
+-- two numbers are its counts of read faults before and after. Of a store that tells nothing the bytes are some bytes.
+abbrev pub FlatCause : Option Contents → ℕ → ℕ → List ℕ → Reply → Type 0
+FlatCause holds before after name (reply.Bound cycles) =
+    (bytes program : List ℕ) × IsWhole holds name bytes × IsProgram bytes program × (cycles ≡ bound_of m1 program)
+FlatCause holds before after name reply.Usage = ⊥
+FlatCause holds before after name (reply.Unreadable named) = (named ≡ name) × Rose before after
+FlatCause holds before after name (reply.Missing named) = (named ≡ name) × IsMissing holds name
+FlatCause holds before after name (reply.LeavesCode addr) =
+    (bytes : List ℕ) × IsWhole holds name bytes × IsCutOff bytes addr
+FlatCause holds before after name (reply.Unsupported addr word) =
+    (bytes : List ℕ) × IsWhole holds name bytes × IsForeign bytes addr word
+FlatCause holds before after name (reply.LongFile named) =
+    (named ≡ name) × ((bytes : List ℕ) × IsCut holds name bytes)
+
+-- the cause of each reply to some words
+pub data HasCause (holds : Option Contents) (before after : ℕ) (words : List (List ℕ)) (said : Reply) : Type 0 where
+  NoForm : ¬ FitsForm words → said ≡ reply.Usage → HasCause holds before after words said
+  OfFlat : (name : List ℕ) → IsFlat words name → FlatCause holds before after name said → HasCause holds before after words said
 
 -- the sink took this text behind what it had, where it tells that
 abbrev pub Took : Option (List ℕ) → Option (List ℕ) → List ℕ → Type 0
@@ -43,3 +49,21 @@ Took before after text = after ≡ option_map (λ bytes. bytes ++ text) before
 -- the sink took a front of this text
 abbrev pub TookFront : Option (List ℕ) → Option (List ℕ) → List ℕ → Type 0
 TookFront before after text = (front rest : List ℕ) × (text ≡ front ++ rest) × Took before after front
+
+-- the status and the text with which a call is to end: those of a reply that has its cause, or want of memory
+pub data IsAnswer (holds : Option Contents) (before after : ℕ) (words : List (List ℕ)) (status : ℕ) (text : List ℕ) : Type 0 where
+  Says : (said : Reply) → HasCause holds before after words said → status ≡ status_of said → text ≡ text_of said → IsAnswer holds before after words status text
+  Starves : status ≡ starved → text ≡ memory_line → IsAnswer holds before after words status text
+
+-- How a text is handed over to a sink, and with which status the call ends: all of it was taken; or the sink failed, or
+-- memory was wanting, and a front was taken.
+pub data HandsOver (taken taken' : Option (List ℕ)) (faults faults' status : ℕ) (text : List ℕ) (ends : ℕ) : Type 0 where
+  Whole : ends ≡ status → Took taken taken' text → faults' ≡ faults → HandsOver taken taken' faults faults' status text ends
+  Unwritten : ends ≡ unwritten → TookFront taken taken' text → Rose faults faults' → HandsOver taken taken' faults faults' status text ends
+  Starved : ends ≡ starved → TookFront taken taken' text → faults' ≡ faults → HandsOver taken taken' faults faults' status text ends
+
+-- the same of the puts that hand a text over
+abbrev pub Puts : Option (List ℕ) → Option (List ℕ) → ℕ → ℕ → List ℕ → Result (Unit {0}) SinkFault → Type 0
+Puts taken taken' faults faults' text (Ok _) = Took taken taken' text × (faults' ≡ faults)
+Puts taken taken' faults faults' text (Err sink_fault.Failed) = TookFront taken taken' text × Rose faults faults'
+Puts taken taken' faults faults' text (Err sink_fault.NoMemory) = TookFront taken taken' text × (faults' ≡ faults)

@@ -1,5 +1,5 @@
 -- Straight programs: raw words that go from one to the next up to a call of the supervisor. This project's own.
-use Rattle.std.specs.Prelude.{◌≡◌, ◌≢◌, ℕ, ◌+◌, ◌*◌, ◌<◌, Bool, true, false, List, [], ◌∷◌, ◌++◌, length, map, reverse, Some}
+use Rattle.std.specs.Prelude.{◌≡◌, ◌≢◌, ℕ, ◌+◌, ◌*◌, ◌^◌, ◌<◌, Bool, true, false, List, [], ◌∷◌, ◌++◌, length, map, reverse, Some}
 use Rattle.std.specs.List.{flat_map, AllByRecursion}
 use Rattle.wx_base.specs.declared.machine.Machine.{Machine}
 use Rattle.wx_base.specs.Bits.{bytes_of_word}
@@ -11,12 +11,14 @@ abbrev pub origin : ℕ
 origin = 0x8000
 
 -- the word is one that a straight program may have before its end
-abbrev pub IsPlain : ℕ → Type 0
-IsPlain word = kind_of word ≡ Some AluImmediate
+pub record IsPlain (word : ℕ) : Type 0 where
+  pub fits : word < 2 ^ 32
+  pub kind : kind_of word ≡ Some AluImmediate
 
 -- the word ends a straight program
-abbrev pub IsLast : ℕ → Type 0
-IsLast word = kind_of word ≡ Some Svc
+pub record IsLast (word : ℕ) : Type 0 where
+  pub fits : word < 2 ^ 32
+  pub kind : kind_of word ≡ Some Svc
 
 abbrev pub bytes_of : List ℕ → List ℕ
 bytes_of words = flat_map bytes_of_word words
@@ -50,6 +52,7 @@ pub record IsForeign (bytes : List ℕ) (address word : ℕ) : Type 0 where
   pub rest : List ℕ
   pub spelled : bytes ≡ bytes_of body ++ bytes_of_word word ++ rest
   pub plain : AllByRecursion IsPlain body
+  pub fits : word < 2 ^ 32
   pub not_plain : kind_of word ≢ Some AluImmediate
   pub not_last : kind_of word ≢ Some Svc
   pub at : address ≡ address_behind body

@@ -1,38 +1,48 @@
-use Rattle.std.proofs.Common.{rules, ◌≡◌, ℕ, ◌≤◌, ◌<◌, ◌^◌, ◌++◌, List, length, IfOk, IfErr, MatchOption, ◌+◌, ◌-◌, ◌*◌, ◌/◌, ◌%◌, Bool, true, false, nat_eq, nat_lt, [], ◌∷◌, slice_index_or, slice_set, bit_and, bit_or, Fits, w8, w32, w64, Bor, MutBor}
+use Rattle.std.proofs.Common.{◌≡◌, ℕ, ◌∙◌, sym, ap, List, [], ◌∷◌, length, ◌++◌, arith, length-append}
 use Rattle.wx_base.specs.Bits.{bytes_of_word}
-use Rattle.wx_base.specs.Machine.{m1, IsMachine}
-use Rattle.wcet_cli.specs.Straight.{IsProgram, bound_of}
-use Rattle.wcet_cli.specs.Refusal.{HasFault}
+use Rattle.wx_base.specs.Recurrence.{next, window, Entry}
+use Rattle.wcet_cli.specs.Straight.{missing}
+use Rattle.wcet_cli.proofs.SoFar.{begin, more, ended, cut_off, foreign, has_room}
+use Rattle.wcet_cli.proofs.RowsOf.{none_of, svc_of, alu_of, missing_of}
 use Rattle.wcet_cli.proofs.straight.bound_of_bytes.Goals as goal
 
--- src/straight.rt:35:5
 pub loop-word-init : goal.loop-word-init
-loop-word-init c = ?
+loop-word-init c =
+    begin c.args.machine.now c.args.bytes.now _ c.windows_follow_the_past.ensures.nothing c.zero-pipeline.ensures
 
--- src/straight.rt:37:13
 pub returns-in_default-decode-clause-fault : goal.returns-in_default-decode-clause-fault
-returns-in_default-decode-clause-fault c = ?
+returns-in_default-decode-clause-fault c =
+    foreign _ _ _ _ _ _ _ c.loop-word.invariant c.in-Some.ensures.0 c.in-Some.ensures.1
+    (none_of c.in-Some.word (sym c.decode.ensures.exact ∙ c.in_default-decode.is))
 
--- src/straight.rt:45:13
 pub advance-times-requires-clause-slots : goal.advance-times-requires-clause-slots
-advance-times-requires-clause-slots c = ?
+advance-times-requires-clause-slots c =
+    (has_room _ _ _ _ _ c.in-Some.word _ c.loop-word.invariant c.in-Some.ensures.0 c.requires.size).times
 
--- src/straight.rt:47:13
 pub returns-in-Svc-clause-bound : goal.returns-in-Svc-clause-bound
-returns-in-Svc-clause-bound c = ?
+returns-in-Svc-clause-bound c =
+    ended _ _ _ _ _ c.in-Some.word _ _ c.requires.machine c.windows_follow_the_past.ensures.times c.loop-word.invariant c.in-Some.ensures.0
+    (record { fits = c.in-Some.ensures.1; kind = svc_of c.in-Some.word _ _ (sym c.decode.ensures.exact ∙ c.in-Some-decode.is) c.in-Svc.is })
+    (c.advance-times.ensures.times ∙ ap (next c.args.machine.now c.loop-word.pipeline.slots []) (missing_of _ _ c.in-Some-decode.ensures.spelled))
 
--- src/straight.rt:49:9
 pub overflow_add-addr : goal.overflow_add-addr
-overflow_add-addr c = ?
+overflow_add-addr c =
+    let room = has_room _ _ _ _ _ c.in-Some.word _ c.loop-word.invariant c.in-Some.ensures.0 c.requires.size in
+    let address = room.address in
+    omega arith
 
--- src/straight.rt:35:5
 pub loop-word-smaller : goal.loop-word-smaller
-loop-word-smaller c = ?
+loop-word-smaller c =
+    omega (arith, ap length c.in-Some.ensures.0, length-append (bytes_of_word c.in-Some.word) c.in-Some.behind.now)
 
--- src/straight.rt:35:5
 pub loop-word-preserved : goal.loop-word-preserved
-loop-word-preserved c = ?
+loop-word-preserved c =
+    let entry = missing_of _ _ c.in-Some-decode.ensures.spelled in
+    more _ _ _ _ _ c.in-Some.word _ _ _ c.requires.machine c.windows_follow_the_past.ensures.times c.windows_follow_the_past.ensures.slots c.loop-word.invariant c.in-Some.ensures.0
+    (record { fits = c.in-Some.ensures.1; kind = alu_of c.in-Some.word _ _ _ _ _ _ (sym c.decode.ensures.exact ∙ c.in-Some-decode.is) c.in_default-op.is })
+    (c.advance-times.ensures.times ∙ ap (next c.args.machine.now c.loop-word.pipeline.slots []) entry)
+    (c.advance-times.ensures.slots ∙ ap (λ (e : Entry). window c.args.machine.now c.loop-word.pipeline.slots (record { entry = e; times = c.advance-times.result } ∷ [])) entry)
+    c.advance-times.ensures.growth
 
--- src/straight.rt:25:1
 pub returns-clause-fault : goal.returns-clause-fault
-returns-clause-fault c = ?
+returns-clause-fault c = cut_off _ _ _ _ _ c.loop-word.invariant c.in_default.ensures

@@ -1,12 +1,9 @@
-use Rattle.std.proofs.Common.{◌≡◌, ℕ, ◌≤◌, ◌<◌, ◌^◌, ◌++◌, List, length, IfOk, IfErr, MatchOption, ◌+◌, ◌-◌, ◌*◌}
-use Rattle.wx_base.specs.Bits.{bytes_of_word}
-use Rattle.wx_base.specs.Machine.{m1, IsMachine}
-use Rattle.wcet_cli.specs.Straight.{IsProgram, bound_of}
-use Rattle.wcet_cli.specs.Refusal.{HasFault}
+use Rattle.std.proofs.Common.{ℕ, length}
+use Rattle.wcet_cli.proofs.SoFar.{SoFar}
 use Rattle.wcet_cli.proofs.straight.bound_of_bytes.Given as goal
 
 abbrev pub invariant-loop-word : goal.invariant-loop-word
-invariant-loop-word l = ?
+invariant-loop-word l = SoFar l.machine l.bytes l.rest l.addr l.pipeline.slots
 
 abbrev pub decreases-loop-word : goal.decreases-loop-word
-decreases-loop-word l = ?
+decreases-loop-word l = length l.rest

@@ -1,10 +1,9 @@
-use Rattle.std.proofs.Common.{rules, ◌≡◌, ℕ, ◌≤◌, ◌<◌, ◌^◌, ◌++◌, List, length, IfOk, IfErr, MatchOption, ◌+◌, ◌-◌, ◌*◌, ◌/◌, ◌%◌, Bool, true, false, nat_eq, nat_lt, [], ◌∷◌, slice_index_or, slice_set, bit_and, bit_or, Fits, w8, w32, w64, Bor, MutBor}
-use Rattle.wx_base.specs.Bits.{bytes_of_word}
-use Rattle.wx_base.specs.Machine.{m1, IsMachine}
-use Rattle.wcet_cli.specs.Straight.{IsProgram, bound_of}
-use Rattle.wcet_cli.specs.Refusal.{HasFault}
+use Rattle.std.proofs.Common.{◌≡◌, ◌∙◌, ℕ, ◌<◌, get_or, arith}
+use Rattle.wcet_cli.proofs.Words.{word_first}
 use Rattle.wcet_cli.proofs.straight.split_word.Goals as goal
 
--- src/straight.rt:56:1
 pub returns : goal.returns
-returns c = ?
+returns c =
+    let cases = c.in_ok-word.ensures.cases in
+    let small : (i : ℕ) → get_or c.args.bytes.now i 0 < 256 = λ i. omega (arith, c.type_inv.bytes i) in
+    (word_first c.args.bytes.now _ _ _ small (omega arith) cases.0 cases.1 c.from_le_bytes.ensures, omega arith)
