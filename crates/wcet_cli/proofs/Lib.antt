@@ -3,3 +3,4 @@ pub mod SoFar
 pub mod RowsOf
 pub mod Putting
 pub mod TwoWords
+pub mod Calls

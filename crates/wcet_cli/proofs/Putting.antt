@@ -35,7 +35,7 @@ put_more taken taken' taken'' faults faults' faults'' text rest rest' n s p e = 
   front = s.front ++ take n rest;
   text_is = s.text_is ∙ ap (λ x. s.front ++ x) (sym (take-append-drop n rest)) ∙ sym (append_assoc s.front (take n rest) (drop n rest)) ∙ ap (λ x. (s.front ++ take n rest) ++ x) (sym e);
   took = took_more taken taken' taken'' s.front (take n rest) s.took p.3;
-  same = p.0 ∙ s.same
+  same = p.0 ∙ s.same;
 }
 
 -- the sink failed, or memory was wanting

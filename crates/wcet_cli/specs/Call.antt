@@ -50,6 +50,11 @@ Took before after text = after ≡ option_map (λ bytes. bytes ++ text) before
 abbrev pub TookFront : Option (List ℕ) → Option (List ℕ) → List ℕ → Type 0
 TookFront before after text = (front rest : List ℕ) × (text ≡ front ++ rest) × Took before after front
 
+-- the status and the text of a reply, or of want of memory
+pub data IsSaid (said : Reply) (status : ℕ) (text : List ℕ) : Type 0 where
+  InFull : status ≡ status_of said → text ≡ text_of said → IsSaid said status text
+  Wanting : status ≡ starved → text ≡ memory_line → IsSaid said status text
+
 -- the status and the text with which a call is to end: those of a reply that has its cause, or want of memory
 pub data IsAnswer (holds : Option Contents) (before after : ℕ) (words : List (List ℕ)) (status : ℕ) (text : List ℕ) : Type 0 where
   Says : (said : Reply) → HasCause holds before after words said → status ≡ status_of said → text ≡ text_of said → IsAnswer holds before after words status text

@@ -1,5 +1,5 @@
 pub mod Straight
 pub mod Refusal
 pub mod Reply
+pub mod Flat
 pub mod Call
-pub mod Command

@@ -1,10 +1,12 @@
 -- Straight programs: raw words that go from one to the next up to a call of the supervisor. This project's own.
-use Rattle.std.specs.Prelude.{◌≡◌, ◌≢◌, ℕ, ◌+◌, ◌*◌, ◌^◌, ◌<◌, Bool, true, false, List, [], ◌∷◌, ◌++◌, length, map, reverse, Some}
+use Rattle.std.specs.Prelude.{◌≡◌, ◌≢◌, ℕ, ◌+◌, ◌*◌, ◌^◌, ◌<◌, ◌≤◌, Bool, true, false, List, [], ◌∷◌, ◌++◌, length, map, reverse, Some}
 use Rattle.std.specs.List.{flat_map, AllByRecursion}
 use Rattle.wx_base.specs.declared.machine.Machine.{Machine}
 use Rattle.wx_base.specs.Bits.{bytes_of_word}
 use Rattle.wx_base.specs.Instruction.{AluImmediate, Svc, kind_of}
 use Rattle.wx_base.specs.Recurrence.{Entry, past_of, completion}
+use Rattle.wx_base.specs.Image.{Image, code_image}
+use Rattle.wx_base.specs.Run.{Start, IsStart, Obeys, run_of, time_of}
 
 -- where the first word of a straight program is placed
 abbrev pub origin : ℕ
@@ -64,3 +66,14 @@ missing word = record { word = word; miss = true; slow = false; taken = false }
 -- The cycles that the words take, one after the other from the empty pipeline, if each fetch misses.
 abbrev pub bound_of : Machine → List ℕ → ℕ
 bound_of machine words = completion [] (past_of machine [] (reverse (map missing words)))
+
+-- the image of some words alone, at the origin
+abbrev pub image_of : List ℕ → Image
+image_of words = code_image origin (bytes_of words)
+
+-- Every run of the image on the machine, from every start, that obeys the flow facts (there are none) and however many
+-- instructions it has, takes at most so many cycles.
+abbrev pub EachRunEndsWithin : Machine → Image → ℕ → ℕ → Type 0
+EachRunEndsWithin machine image entry cycles =
+    (start : Start) (n : ℕ) → IsStart machine image entry start → Obeys (run_of machine image entry start n) →
+    time_of (run_of machine image entry start n) ≤ cycles

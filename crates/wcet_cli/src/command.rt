@@ -1,24 +1,15 @@
-ghost use Rattle.std.specs.Prelude.{◌≡◌, ◌↔◌, IsTrue, map, string_bytes};
-ghost use Rattle.wcet_cli.specs.Command.{IsRead};
+ghost use Rattle.std.specs.Prelude.{◌≡◌, ◌↔◌, IsTrue, MatchOption, map, string_bytes};
+ghost use Rattle.wcet_cli.specs.Call.{FitsForm, IsFlat};
 
-/// A command with its words.
-#[derive(Clone, Copy, Debug)]
-pub enum Command<'a> {
-    /// The bound of the raw words in a file.
-    Flat { code: &'a str },
-}
-
-/// The command that the words are, if they fit its form.
-pub fn read_command(words: &[String]) -> Option<Command<'_>>
-    ensures { IsRead (map string_bytes words.now) result }
+/// The name of the file, where the words are `flat` and a name.
+pub fn flat_code(words: &[String]) -> Option<&str>
+    ensures { MatchOption result (¬ FitsForm (map string_bytes words.now)) (λ code. IsFlat (map string_bytes words.now) code.now) }
 {
     let [name, code] = words else {
         return None;
     };
     if is_word(name.as_str(), "flat") {
-        Some(Command::Flat {
-            code: code.as_str(),
-        })
+        Some(code.as_str())
     } else {
         None
     }
