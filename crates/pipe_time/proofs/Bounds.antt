@@ -13,7 +13,7 @@ use Rattle.wx_base.specs.Instruction.{Kind, AluImmediate, kind_of, transfers_by,
 use Rattle.wx_base.specs.Recurrence.{Entry, Done, slot, ago, kept, when, next, window, latest, fe_back, d_back, x_back, c_back, unit_free, latency_of, occupancy_of, same_unit, written}
 use Rattle.wx_base.specs.Vector.{AreWithin}
 use Rattle.pipe_time.specs.Growth.{TimesWithin, TimesGrowLittle, SlotsGrowLittle}
-use Rattle.pipe_time.proofs.Cases.{width_cases, queue_cases}
+use Rattle.pipe_time.proofs.Cases.{◌▸◌, width_cases, queue_cases}
 use Rattle.pipe_time.proofs.Readings.{Readings, readings, timed, next_timed}
 
 few_by : (word : ℕ) (kind : Kind) → transfers_by word kind ≤ 16
@@ -156,111 +156,13 @@ window_within m bound slots i h t free =
     λ r k. chosen_within (is_in (writes_of i.entry.word) r) _ _ bound t.xe (old k) in
     record {
       each = each_within bound (window m slots (i ∷ [])) (
-        t.f,
-        (
-          t.fe,
-          (
-            keep 2 m.width _ (old 1),
-            (
-              keep 1 m.queue _ t.d,
-              (
-                keep 2 m.queue _ (old 3),
-                (
-                  keep 3 m.queue _ (old 4),
-                  (
-                    keep 4 m.queue _ (old 5),
-                    (
-                      keep 5 m.queue _ (old 6),
-                      (
-                        keep 6 m.queue _ (old 7),
-                        (
-                          keep 7 m.queue _ (old 8),
-                          (
-                            keep 8 m.queue _ (old 9),
-                            (
-                              t.x,
-                              (
-                                keep 2 m.width _ (old 11),
-                                (
-                                  when_within i.entry.taken i.times.xe bound t.xe,
-                                  (
-                                    t.c,
-                                    (
-                                      keep 2 m.width _ (old 14),
-                                      (
-                                        unit Alu 16,
-                                        (
-                                          unit Mul 17,
-                                          (
-                                            unit Mem 18,
-                                            (
-                                              write 0 19,
-                                              (
-                                                write 1 20,
-                                                (
-                                                  write 2 21,
-                                                  (
-                                                    write 3 22,
-                                                    (
-                                                      write 4 23,
-                                                      (
-                                                        write 5 24,
-                                                        (
-                                                          write 6 25,
-                                                          (
-                                                            write 7 26,
-                                                            (
-                                                              write 8 27,
-                                                              (
-                                                                write 9 28,
-                                                                (
-                                                                  write 10 29,
-                                                                  (
-                                                                    write 11 30,
-                                                                    (
-                                                                      write 12 31,
-                                                                      (
-                                                                        write 13 32,
-                                                                        (
-                                                                          write 14 33,
-                                                                          (
-                                                                            write 15 34,
-                                                                            tt,
-                                                                          ),
-                                                                        ),
-                                                                      ),
-                                                                    ),
-                                                                  ),
-                                                                ),
-                                                              ),
-                                                            ),
-                                                          ),
-                                                        ),
-                                                      ),
-                                                    ),
-                                                  ),
-                                                ),
-                                              ),
-                                            ),
-                                          ),
-                                        ),
-                                      ),
-                                    ),
-                                  ),
-                                ),
-                              ),
-                            ),
-                          ),
-                        ),
-                      ),
-                    ),
-                  ),
-                ),
-              ),
-            ),
-          ),
-        ),
-      );
+          t.f ▸ t.fe ▸ keep 2 m.width _ (old 1) ▸ keep 1 m.queue _ t.d ▸ keep 2 m.queue _ (old 3) ▸
+          keep 3 m.queue _ (old 4) ▸ keep 4 m.queue _ (old 5) ▸ keep 5 m.queue _ (old 6) ▸ keep 6 m.queue _ (old 7) ▸
+          keep 7 m.queue _ (old 8) ▸ keep 8 m.queue _ (old 9) ▸ t.x ▸ keep 2 m.width _ (old 11) ▸
+          when_within i.entry.taken i.times.xe bound t.xe ▸ t.c ▸ keep 2 m.width _ (old 14) ▸ unit Alu 16 ▸
+          unit Mul 17 ▸ unit Mem 18 ▸ write 0 19 ▸ write 1 20 ▸ write 2 21 ▸ write 3 22 ▸ write 4 23 ▸ write 5 24 ▸
+          write 6 25 ▸ write 7 26 ▸ write 8 27 ▸ write 9 28 ▸ write 10 29 ▸ write 11 30 ▸ write 12 31 ▸ write 13 32 ▸
+          write 14 33 ▸ write 15 34 ▸ tt);
     }
 
 pub slots_grow_little : SlotsGrowLittle

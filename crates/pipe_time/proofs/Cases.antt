@@ -7,6 +7,11 @@ use Rattle.wx_base.specs.Vector.{zero_slots}
 use Rattle.std.proofs.lemmas.List.{get_or-replicate, get_or_past, length-replicate}
 use Rattle.std.proofs.lemmas.Bool.{cases_lt}
 
+-- a pair, written without parentheses
+infixr 4 ◌▸◌
+abbrev pub ◌▸◌ : {A B : Type 0} → A → B → A × B
+a ▸ b = (a, b)
+
 -- what holds of 1 and 2 holds of a width
 pub width_cases : (P : ℕ → Type 0) → P 1 → P 2 → (w : ℕ) → Between 1 2 w → P w
 width_cases P one two zero b = absurd (omega (arith, b.0))

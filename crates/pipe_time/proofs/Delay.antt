@@ -7,12 +7,12 @@ use Rattle.wx_base.specs.declared.times.Times.{Times}
 use Rattle.wx_base.specs.Bits.{is_in}
 use Rattle.wx_base.specs.Machine.{IsMachine, timing_of}
 use Rattle.wx_base.specs.Instruction.{unit_of, transfers_of, reads_of, writes_of}
-use Rattle.wx_base.specs.Recurrence.{Entry, Done, slot, ago, kept, when, next, window, latest, past_of, completion, fe_back, d_back, x_back, c_back, unit_free, latency_of, same_unit, written}
+use Rattle.wx_base.specs.Recurrence.{Entry, Done, slot, ago, kept, when, next, window, latest, past_of, completion, fe_back, d_back, x_back, c_back, unit_free, latency_of, occupancy_of, same_unit, written}
 use Rattle.wx_base.specs.Vector.{Covers, IsWorse}
 use Rattle.pipe_time.specs.Order.{Pairwise, AreNoEarlier, AreAtMostLater, SlotsAtMostLater, WorseIsNoFaster, WorseCompletesNoEarlier, WorseStaysCovering, DelayIsPassedOn, DelayOfCompletion, DelayOfSlots, MissingIsTheLongest, all_missing}
-use Rattle.pipe_time.proofs.Cases.{width_cases, queue_cases}
+use Rattle.pipe_time.proofs.Cases.{◌▸◌, width_cases, queue_cases}
 use Rattle.pipe_time.proofs.Readings.{readings, next_timed}
-use Rattle.pipe_time.proofs.Related.{Closed, RelatedReadings, RelatedTimes, RelatedEntries, timed_related, latest_related, chosen_related, when_related, AtMost, NoLess, at_most_closed}
+use Rattle.pipe_time.proofs.Related.{Closed, Joined, RelatedReadings, RelatedTimes, RelatedEntries, timed_related, latest_related, chosen_related, when_related, AtMost, NoLess, at_most_closed}
 use Rattle.pipe_time.proofs.Windows.{window_gives_times, window_gives_window}
 
 -- each slot of the one is related to that of the other
@@ -31,9 +31,9 @@ free_related R m Alu v w h = h.each 16
 free_related R m Mul v w h = h.each 17
 free_related R m Mem v w h = h.each 18
 
-pub slots_readings : (R I : ℕ → ℕ → Type 0) (m : Machine) (v w : List ℕ) (e g : Entry) → Closed R R I → IsMachine m → RelatedSlots R v w → e.word ≡ g.word →
+pub slots_readings : (R : ℕ → ℕ → Type 0) (m : Machine) (v w : List ℕ) (e g : Entry) → Joined R R → IsMachine m → RelatedSlots R v w → e.word ≡ g.word →
     RelatedReadings R R (readings m v [] e) (readings m w [] g)
-slots_readings R I m v w e g closed ok h word = record {
+slots_readings R m v w e g closed ok h word = record {
   f = h.each 0;
   fe = h.each 1;
   fe_far = width_cases (λ n. R (ago n (fe_back v [])) (ago n (fe_back w []))) (h.each 1) (h.each 2) m.width ok.width;
@@ -46,7 +46,7 @@ slots_readings R I m v w e g closed ok h word = record {
   c_far = width_cases (λ n. R (ago n (c_back v [])) (ago n (c_back w []))) (h.each 14) (h.each 15) m.width ok.width;
   free = subst (λ (n : ℕ). R (unit_free m v (unit_of e.word) []) (unit_free m w (unit_of n) [])) word (free_related R m (unit_of e.word) v w h);
   ready = subst (λ (n : ℕ). R (latest (λ r. written v r []) (reads_of e.word) 16) (latest (λ r. written w r []) (reads_of n) 16)) word
-      (latest_related R R I (λ r. written v r []) (λ r. written w r []) (reads_of e.word) 16 closed (λ r _. h.each (19 + r)));
+      (latest_related R R (λ r. written v r []) (λ r. written w r []) (reads_of e.word) 16 closed (λ r _. h.each (19 + r)));
 }
 
 -- the windows on nothing
@@ -57,238 +57,47 @@ start_slots R m v w nothing h =
     let keep : (n reach a b : ℕ) → R a b → R (kept n reach a) (kept n reach b) = λ n reach a b p. when_related R (leb n reach) a b nothing p in
     record {
       each = pairs_each R (window m v []) (window m w []) nothing (
-        old 0,
-        (
-          old 1,
-          (
-            keep 2 m.width _ _ (old 2),
-            (
-              keep 1 m.queue _ _ (old 3),
-              (
-                keep 2 m.queue _ _ (old 4),
-                (
-                  keep 3 m.queue _ _ (old 5),
-                  (
-                    keep 4 m.queue _ _ (old 6),
-                    (
-                      keep 5 m.queue _ _ (old 7),
-                      (
-                        keep 6 m.queue _ _ (old 8),
-                        (
-                          keep 7 m.queue _ _ (old 9),
-                          (
-                            keep 8 m.queue _ _ (old 10),
-                            (
-                              old 11,
-                              (
-                                keep 2 m.width _ _ (old 12),
-                                (
-                                  old 13,
-                                  (
-                                    old 14,
-                                    (
-                                      keep 2 m.width _ _ (old 15),
-                                      (
-                                        old 16,
-                                        (
-                                          old 17,
-                                          (
-                                            old 18,
-                                            (
-                                              old 19,
-                                              (
-                                                old 20,
-                                                (
-                                                  old 21,
-                                                  (
-                                                    old 22,
-                                                    (
-                                                      old 23,
-                                                      (
-                                                        old 24,
-                                                        (
-                                                          old 25,
-                                                          (
-                                                            old 26,
-                                                            (
-                                                              old 27,
-                                                              (
-                                                                old 28,
-                                                                (
-                                                                  old 29,
-                                                                  (
-                                                                    old 30,
-                                                                    (
-                                                                      old 31,
-                                                                      (
-                                                                        old 32,
-                                                                        (
-                                                                          old 33,
-                                                                          (
-                                                                            old 34,
-                                                                            tt,
-                                                                          ),
-                                                                        ),
-                                                                      ),
-                                                                    ),
-                                                                  ),
-                                                                ),
-                                                              ),
-                                                            ),
-                                                          ),
-                                                        ),
-                                                      ),
-                                                    ),
-                                                  ),
-                                                ),
-                                              ),
-                                            ),
-                                          ),
-                                        ),
-                                      ),
-                                    ),
-                                  ),
-                                ),
-                              ),
-                            ),
-                          ),
-                        ),
-                      ),
-                    ),
-                  ),
-                ),
-              ),
-            ),
-          ),
-        ),
-      );
+          old 0 ▸ old 1 ▸ keep 2 m.width _ _ (old 2) ▸ keep 1 m.queue _ _ (old 3) ▸ keep 2 m.queue _ _ (old 4) ▸
+          keep 3 m.queue _ _ (old 5) ▸ keep 4 m.queue _ _ (old 6) ▸ keep 5 m.queue _ _ (old 7) ▸
+          keep 6 m.queue _ _ (old 8) ▸ keep 7 m.queue _ _ (old 9) ▸ keep 8 m.queue _ _ (old 10) ▸ old 11 ▸
+          keep 2 m.width _ _ (old 12) ▸ old 13 ▸ old 14 ▸ keep 2 m.width _ _ (old 15) ▸ old 16 ▸ old 17 ▸ old 18 ▸
+          old 19 ▸ old 20 ▸ old 21 ▸ old 22 ▸ old 23 ▸ old 24 ▸ old 25 ▸ old 26 ▸ old 27 ▸ old 28 ▸ old 29 ▸ old 30 ▸
+          old 31 ▸ old 32 ▸ old 33 ▸ old 34 ▸ tt);
     }
 
 -- the windows on one instruction
-pub step_slots : (R I : ℕ → ℕ → Type 0) (m : Machine) (v w : List ℕ) (i j : Done) → Closed R R I → RelatedSlots R v w →
-    RelatedTimes R i.times j.times → RelatedEntries m I i.entry j.entry → RelatedSlots R (window m v (i ∷ [])) (window m w (j ∷ []))
+pub step_slots_by : (R : ℕ → ℕ → Type 0) (m : Machine) (v w : List ℕ) (i j : Done) → R 0 0 → RelatedSlots R v w →
+    RelatedTimes R i.times j.times → R (i.times.x + occupancy_of m i.entry) (j.times.x + occupancy_of m i.entry) →
+    i.entry.word ≡ j.entry.word → i.entry.taken ≡ j.entry.taken → RelatedSlots R (window m v (i ∷ [])) (window m w (j ∷ []))
 unfolding window
-step_slots R I m v w i j closed h t s =
-    let nothing : R 0 0 = closed.nothing in
+step_slots_by R m v w i j nothing h t until word taken =
     let old = h.each in
     let keep : (n reach a b : ℕ) → R a b → R (kept n reach a) (kept n reach b) = λ n reach a b p. when_related R (leb n reach) a b nothing p in
-    let held : ℕ → ℕ = λ word. (timing_of m (unit_of word)).occupancy + (transfers_of word - 1) in
+    let held : ℕ → ℕ = λ n. (timing_of m (unit_of n)).occupancy + (transfers_of n - 1) in
     let unit : (u : UnitKind) (k : ℕ) → R (cond (same_unit (unit_of i.entry.word) u) (i.times.x + held i.entry.word) (slot v k)) (cond (same_unit (unit_of j.entry.word) u) (j.times.x + held j.entry.word) (slot w k)) =
-    λ u k. subst (λ (word : ℕ). R (cond (same_unit (unit_of i.entry.word) u) (i.times.x + held i.entry.word) (slot v k)) (cond (same_unit (unit_of word) u) (j.times.x + held word) (slot w k))) s.word
-    (chosen_related R (same_unit (unit_of i.entry.word) u) _ _ _ _ (closed.later _ _ _ _ (closed.same (held i.entry.word)) t.x) (old k)) in
+    λ u k. subst (λ (n : ℕ). R (cond (same_unit (unit_of i.entry.word) u) (i.times.x + held i.entry.word) (slot v k)) (cond (same_unit (unit_of n) u) (j.times.x + held n) (slot w k))) word
+    (chosen_related R (same_unit (unit_of i.entry.word) u) _ _ _ _ until (old k)) in
     let write : (r k : ℕ) → R (cond (is_in (writes_of i.entry.word) r) i.times.xe (slot v k)) (cond (is_in (writes_of j.entry.word) r) j.times.xe (slot w k)) =
-    λ r k. subst (λ (word : ℕ). R (cond (is_in (writes_of i.entry.word) r) i.times.xe (slot v k)) (cond (is_in (writes_of word) r) j.times.xe (slot w k))) s.word
+    λ r k. subst (λ (n : ℕ). R (cond (is_in (writes_of i.entry.word) r) i.times.xe (slot v k)) (cond (is_in (writes_of n) r) j.times.xe (slot w k))) word
     (chosen_related R (is_in (writes_of i.entry.word) r) _ _ _ _ t.xe (old k)) in
     let jump : R (when i.entry.taken i.times.xe) (when j.entry.taken j.times.xe) =
-    subst (λ (b : Bool). R (when i.entry.taken i.times.xe) (when b j.times.xe)) s.taken (when_related R i.entry.taken _ _ nothing t.xe) in
+    subst (λ (b : Bool). R (when i.entry.taken i.times.xe) (when b j.times.xe)) taken (when_related R i.entry.taken _ _ nothing t.xe) in
     record {
       each = pairs_each R (window m v (i ∷ [])) (window m w (j ∷ [])) nothing (
-        t.f,
-        (
-          t.fe,
-          (
-            keep 2 m.width _ _ (old 1),
-            (
-              keep 1 m.queue _ _ t.d,
-              (
-                keep 2 m.queue _ _ (old 3),
-                (
-                  keep 3 m.queue _ _ (old 4),
-                  (
-                    keep 4 m.queue _ _ (old 5),
-                    (
-                      keep 5 m.queue _ _ (old 6),
-                      (
-                        keep 6 m.queue _ _ (old 7),
-                        (
-                          keep 7 m.queue _ _ (old 8),
-                          (
-                            keep 8 m.queue _ _ (old 9),
-                            (
-                              t.x,
-                              (
-                                keep 2 m.width _ _ (old 11),
-                                (
-                                  jump,
-                                  (
-                                    t.c,
-                                    (
-                                      keep 2 m.width _ _ (old 14),
-                                      (
-                                        unit Alu 16,
-                                        (
-                                          unit Mul 17,
-                                          (
-                                            unit Mem 18,
-                                            (
-                                              write 0 19,
-                                              (
-                                                write 1 20,
-                                                (
-                                                  write 2 21,
-                                                  (
-                                                    write 3 22,
-                                                    (
-                                                      write 4 23,
-                                                      (
-                                                        write 5 24,
-                                                        (
-                                                          write 6 25,
-                                                          (
-                                                            write 7 26,
-                                                            (
-                                                              write 8 27,
-                                                              (
-                                                                write 9 28,
-                                                                (
-                                                                  write 10 29,
-                                                                  (
-                                                                    write 11 30,
-                                                                    (
-                                                                      write 12 31,
-                                                                      (
-                                                                        write 13 32,
-                                                                        (
-                                                                          write 14 33,
-                                                                          (
-                                                                            write 15 34,
-                                                                            tt,
-                                                                          ),
-                                                                        ),
-                                                                      ),
-                                                                    ),
-                                                                  ),
-                                                                ),
-                                                              ),
-                                                            ),
-                                                          ),
-                                                        ),
-                                                      ),
-                                                    ),
-                                                  ),
-                                                ),
-                                              ),
-                                            ),
-                                          ),
-                                        ),
-                                      ),
-                                    ),
-                                  ),
-                                ),
-                              ),
-                            ),
-                          ),
-                        ),
-                      ),
-                    ),
-                  ),
-                ),
-              ),
-            ),
-          ),
-        ),
-      );
+          t.f ▸ t.fe ▸ keep 2 m.width _ _ (old 1) ▸ keep 1 m.queue _ _ t.d ▸ keep 2 m.queue _ _ (old 3) ▸
+          keep 3 m.queue _ _ (old 4) ▸ keep 4 m.queue _ _ (old 5) ▸ keep 5 m.queue _ _ (old 6) ▸
+          keep 6 m.queue _ _ (old 7) ▸ keep 7 m.queue _ _ (old 8) ▸ keep 8 m.queue _ _ (old 9) ▸ t.x ▸
+          keep 2 m.width _ _ (old 11) ▸ jump ▸ t.c ▸ keep 2 m.width _ _ (old 14) ▸ unit Alu 16 ▸ unit Mul 17 ▸
+          unit Mem 18 ▸ write 0 19 ▸ write 1 20 ▸ write 2 21 ▸ write 3 22 ▸ write 4 23 ▸ write 5 24 ▸ write 6 25 ▸
+          write 7 26 ▸ write 8 27 ▸ write 9 28 ▸ write 10 29 ▸ write 11 30 ▸ write 12 31 ▸ write 13 32 ▸
+          write 14 33 ▸ write 15 34 ▸ tt);
     }
+
+-- the same, where the relation is closed
+step_slots : (R I : ℕ → ℕ → Type 0) (m : Machine) (v w : List ℕ) (i j : Done) → Closed R R I → RelatedSlots R v w →
+    RelatedTimes R i.times j.times → RelatedEntries m I i.entry j.entry → RelatedSlots R (window m v (i ∷ [])) (window m w (j ∷ []))
+step_slots R I m v w i j closed h t s =
+    step_slots_by R m v w i j closed.joined.nothing h t (closed.later _ _ _ _ (closed.same (occupancy_of m i.entry)) t.x) s.word s.taken
 
 -- what is kept along two runs
 pub record RelatedRuns (R : ℕ → ℕ → Type 0) (m : Machine) (v w : List ℕ) (past other : List Done) : Type 0 where
@@ -305,7 +114,7 @@ step_runs R I m v w past other e g closed ok h s =
     let i : Done = record { entry = e; times = next m v past e } in
     let j : Done = record { entry = g; times = next m w other g } in
     let moved : RelatedTimes R (next m a [] e) (next m b [] g) =
-    rw (next_timed m a [] e, next_timed m b [] g) (timed_related R R I m e g _ _ closed s (slots_readings R I m a b e g closed ok h.slots s.word)) in
+    rw (next_timed m a [] e, next_timed m b [] g) (timed_related R R I m e g _ _ closed s (slots_readings R m a b e g closed.joined ok h.slots s.word)) in
     let times : RelatedTimes R (next m v past e) (next m w other g) =
     rw (← window_gives_times m v past e ok, ← window_gives_times m w other g ok) moved in
     record {
@@ -317,7 +126,7 @@ step_runs R I m v w past other e g closed ok h s =
 pub related_runs : (R I : ℕ → ℕ → Type 0) (m : Machine) (v w : List ℕ) (es gs : List Entry) → Closed R R I → IsMachine m →
     RelatedSlots R v w → Pairwise (RelatedEntries m I) es gs → RelatedRuns R m v w (past_of m v es) (past_of m w gs)
 unfolding past_of
-related_runs R I m v w [] [] closed ok h s = record { times = tt; slots = start_slots R m v w closed.nothing h }
+related_runs R I m v w [] [] closed ok h s = record { times = tt; slots = start_slots R m v w closed.joined.nothing h }
 related_runs R I m v w (e ∷ es) (g ∷ gs) closed ok h s =
     step_runs R I m v w (past_of m v es) (past_of m w gs) e g closed ok (related_runs R I m v w es gs closed ok h s.1) s.0
 related_runs R I m v w [] (g ∷ gs) closed ok h s = absurd s

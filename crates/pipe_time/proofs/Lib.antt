@@ -6,3 +6,4 @@ pub mod Bounds
 pub mod Related
 pub mod Delay
 pub mod Shift
+pub mod Floors

@@ -6,12 +6,16 @@ use Rattle.wx_base.specs.Bits.{is_in}
 use Rattle.wx_base.specs.Recurrence.{Entry, when, latest, latency_of}
 use Rattle.pipe_time.proofs.Readings.{Readings, timed}
 
--- What R and the weaker Z, which holds of two zeros, need to be kept where I relates the durations that are added.
-pub record Closed (R Z I : ℕ → ℕ → Type 0) : Type 0 where
+-- The weaker relation Z holds of two zeros, and the later of two times keeps it.
+pub record Joined (R Z : ℕ → ℕ → Type 0) : Type 0 where
   pub weak : (a b : ℕ) → R a b → Z a b
   pub nothing : Z 0 0
-  pub behind : (a b c d : ℕ) → R a b → Z c d → R (max a c) (max b d)
   pub both : (a b c d : ℕ) → Z a b → Z c d → Z (max a c) (max b d)
+
+-- R is kept beside Z, and where durations are added that I relates.
+pub record Closed (R Z I : ℕ → ℕ → Type 0) : Type 0 where
+  pub joined : Joined R Z
+  pub behind : (a b c d : ℕ) → R a b → Z c d → R (max a c) (max b d)
   pub later : (a b n k : ℕ) → I n k → R a b → R (a + n) (b + k)
   pub same : (n : ℕ) → I n n
 
@@ -46,7 +50,7 @@ pub record RelatedEntries (m : Machine) (I : ℕ → ℕ → Type 0) (a b : Entr
 pub timed_related : (R Z I : ℕ → ℕ → Type 0) (m : Machine) (e g : Entry) (a b : Readings) → Closed R Z I → RelatedEntries m I e g →
     RelatedReadings R Z a b → RelatedTimes R (timed m e a) (timed m g b)
 timed_related R Z I m e g a b k s r =
-    let two : (p q u v : ℕ) → R p q → R u v → R (max p u) (max q v) = λ p q u v h i. k.behind p q u v h (k.weak u v i) in
+    let two : (p q u v : ℕ) → R p q → R u v → R (max p u) (max q v) = λ p q u v h i. k.behind p q u v h (k.joined.weak u v i) in
     let f' : R (max (max a.f a.fe_far) (max a.d_far a.jump)) (max (max b.f b.fe_far) (max b.d_far b.jump)) = two _ _ _ _ (two _ _ _ _ r.f r.fe_far) (k.behind _ _ _ _ r.d_far r.jump) in
     let fe = two _ _ _ _ (k.later _ _ _ _ s.miss (k.later _ _ _ _ (k.same m.hit) f')) r.fe in
     let d = two _ _ _ _ (two _ _ _ _ fe r.d) r.x_far in
@@ -58,11 +62,11 @@ pub when_related : (Z : ℕ → ℕ → Type 0) (test : Bool) (a b : ℕ) → Z 
 when_related Z true a b n h = h
 when_related Z false a b n h = n
 
-pub latest_related : (R Z I : ℕ → ℕ → Type 0) (a b : ℕ → ℕ) (set n : ℕ) → Closed R Z I → ((r : ℕ) → r < n → R (a r) (b r)) → Z (latest a set n) (latest b set n)
+pub latest_related : (R Z : ℕ → ℕ → Type 0) (a b : ℕ → ℕ) (set n : ℕ) → Joined R Z → ((r : ℕ) → r < n → R (a r) (b r)) → Z (latest a set n) (latest b set n)
 unfolding latest
-latest_related R Z I a b set zero k h = k.nothing
-latest_related R Z I a b set (suc n) k h =
-    k.both _ _ _ _ (latest_related R Z I a b set n k (λ r lt. h r (omega arith)))
+latest_related R Z a b set zero k h = k.nothing
+latest_related R Z a b set (suc n) k h =
+    k.both _ _ _ _ (latest_related R Z a b set n k (λ r lt. h r (omega arith)))
     (when_related Z (is_in set n) (a n) (b n) k.nothing (k.weak _ _ (h n (omega arith))))
 
 pub chosen_related : (R : ℕ → ℕ → Type 0) (test : Bool) (a b c d : ℕ) → R a b → R c d → R (cond test a c) (cond test b d)
@@ -84,10 +88,8 @@ sum_at_most t a b n k h i = omega arith
 
 pub at_most_closed : (t : ℕ) → Closed (AtMost t) (AtMost t) NoLess
 at_most_closed t = record {
-  weak = λ a b h. h;
-  nothing = omega arith;
+  joined = record { weak = λ a b h. h; nothing = omega arith; both = max_at_most t };
   behind = max_at_most t;
-  both = max_at_most t;
   later = sum_at_most t;
   same = λ n. omega arith;
 }
@@ -129,10 +131,8 @@ sum_exact t a b n k h i = omega arith
 
 pub exactly_closed : (t : ℕ) → Closed (Exactly t) (ExactlyOrNothing t) Same
 exactly_closed t = record {
-  weak = λ a b h. inl h;
-  nothing = inr (refl, refl);
+  joined = record { weak = λ a b h. inl h; nothing = inr (refl, refl); both = exact_both t };
   behind = exact_behind t;
-  both = exact_both t;
   later = sum_exact t;
   same = λ n. refl;
 }

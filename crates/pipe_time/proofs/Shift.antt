@@ -45,7 +45,7 @@ linked_readings R Z I m v w past other e g closed ok h word =
       c_far = h.c (m.width - 1) far;
       free = subst (λ (n : ℕ). R (unit_free m v (unit_of e.word) past) (unit_free m w (unit_of n) other)) word (h.free (unit_of e.word));
       ready = subst (λ (n : ℕ). Z (latest (λ r. written v r past) (reads_of e.word) 16) (latest (λ r. written w r other) (reads_of n) 16)) word
-          (latest_related R Z I (λ r. written v r past) (λ r. written w r other) (reads_of e.word) 16 closed h.ends);
+          (latest_related R Z (λ r. written v r past) (λ r. written w r other) (reads_of e.word) 16 closed.joined h.ends);
     }
 
 -- one more time in front of related ones
@@ -64,7 +64,7 @@ linked_step R Z I m v w past other i j closed h t s =
       d = more_related R m.queue i.times.d j.times.d (d_back v past) (d_back w other) t.d h.d;
       x = more_related R m.width i.times.x j.times.x (x_back v past) (x_back w other) t.x h.x;
       jump = subst (λ (b : Bool). Z (when i.entry.taken i.times.xe) (when b j.times.xe)) s.taken
-          (when_related Z i.entry.taken _ _ closed.nothing (closed.weak _ _ t.xe));
+          (when_related Z i.entry.taken _ _ closed.joined.nothing (closed.joined.weak _ _ t.xe));
       c = more_related R m.width i.times.c j.times.c (c_back v past) (c_back w other) t.c h.c;
       free = λ u. subst (λ (word : ℕ). R (cond (same_unit (unit_of i.entry.word) u) (i.times.x + held i.entry.word) (unit_free m v u past)) (cond (same_unit (unit_of word) u) (j.times.x + held word) (unit_free m w u other))) s.word
           (chosen_related R (same_unit (unit_of i.entry.word) u) _ _ _ _ (closed.later _ _ _ _ (closed.same (held i.entry.word)) t.x) (h.free u));
@@ -158,7 +158,7 @@ linked_start m t later slots ok h = record {
   fe = pair_start (Exactly t) m.width _ _ _ _ ok.width.1 (h.each 1 refl) (λ w. h.each 2 (wide m.width w));
   d = d_start m t later slots ok h;
   x = pair_start (Exactly t) m.width _ _ _ _ ok.width.1 (h.each 11 refl) (λ w. h.each 12 (wide m.width w));
-  jump = (exactly_closed t).weak _ _ (h.each 13 refl);
+  jump = (exactly_closed t).joined.weak _ _ (h.each 13 refl);
   c = pair_start (Exactly t) m.width _ _ _ _ ok.width.1 (h.each 14 refl) (λ w. h.each 15 (wide m.width w));
   free = free_start m t later slots h;
   ends = ends_start m t later slots h;

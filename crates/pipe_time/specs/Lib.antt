@@ -2,3 +2,4 @@ pub mod Entries
 pub mod Windows
 pub mod Growth
 pub mod Order
+pub mod Floor

@@ -2,6 +2,7 @@
 
 ghost use Rattle.pipe_time.specs.Windows.{WindowGivesTimes, WindowGivesWindow, ZeroIsNothing, NothingIsZero, ZeroStays, SteppingIsTheRecurrence};
 ghost use Rattle.pipe_time.specs.Order.{WorseIsNoFaster, WorseCompletesNoEarlier, WorseStaysCovering, DelayIsPassedOn, DelayOfCompletion, DelayOfSlots, MissingIsTheLongest, ShiftMovesTimes, ShiftMovesCompletion};
+ghost use Rattle.pipe_time.specs.Floor.{RaisingChangesNothing};
 ghost use Rattle.pipe_time.specs.Growth.{TimesGrowLittle, SlotsGrowLittle};
 
 /// A vector is all that times depend on: continuing from the window on a past gives what continuing from the past
@@ -44,4 +45,9 @@ pub fn every_fetch_missing_is_the_longest()
 pub fn a_shift_moves_all_times()
     ensures times { ShiftMovesTimes }
     ensures completion { ShiftMovesCompletion }
+{}
+
+/// No time of a run is earlier than its first fetch, so a slot below that fetch may be raised up to it.
+pub fn raising_to_the_next_fetch_changes_nothing()
+    ensures { RaisingChangesNothing }
 {}

@@ -9,7 +9,7 @@ mod vector;
 
 pub use laws::{
     a_shift_moves_all_times, delay_is_passed_on, every_fetch_missing_is_the_longest, growth,
-    windows_follow_the_past, worse_is_no_faster,
+    raising_to_the_next_fetch_changes_nothing, windows_follow_the_past, worse_is_no_faster,
 };
 pub use recurrence::advance;
 pub use vector::{Entry, Vector};

@@ -4,3 +4,5 @@ pub mod RowsOf
 pub mod Putting
 pub mod TwoWords
 pub mod Calls
+pub mod Placed
+pub mod Running

@@ -32,7 +32,7 @@ plain_push : (words : List ℕ) (word : ℕ) → AllByRecursion IsPlain words �
 plain_push [] word p q = (q, tt)
 plain_push (w ∷ words) word p q = (p.0, plain_push words word p.1 q)
 
-entries_push : (words : List ℕ) (word : ℕ) → entries (words ++ word ∷ []) ≡ missing word ∷ entries words
+pub entries_push : (words : List ℕ) (word : ℕ) → entries (words ++ word ∷ []) ≡ missing word ∷ entries words
 entries_push words word = ap reverse (map_push missing words word) ∙ reverse-append (map missing words) (missing word ∷ [])
 
 bytes_push : (words : List ℕ) (word : ℕ) → bytes_of (words ++ word ∷ []) ≡ bytes_of words ++ bytes_of_word word

@@ -5,7 +5,8 @@ use Rattle.wx_base.specs.declared.machine.Machine.{Machine}
 use Rattle.wx_base.specs.Bits.{bytes_of_word}
 use Rattle.wx_base.specs.Instruction.{AluImmediate, Svc, kind_of}
 use Rattle.wx_base.specs.Recurrence.{Entry, past_of, completion}
-use Rattle.wx_base.specs.Image.{Image, code_image}
+use Rattle.wx_base.specs.declared.image.Image.{Image}
+use Rattle.wx_base.specs.Image.{code_image}
 use Rattle.wx_base.specs.Run.{Start, IsStart, Obeys, run_of, time_of}
 
 -- where the first word of a straight program is placed
@@ -73,7 +74,7 @@ image_of words = code_image origin (bytes_of words)
 
 -- Every run of the image on the machine, from every start, that obeys the flow facts (there are none) and however many
 -- instructions it has, takes at most so many cycles.
-abbrev pub EachRunEndsWithin : Machine → Image → ℕ → ℕ → Type 0
-EachRunEndsWithin machine image entry cycles =
+abbrev pub EachRunTakesAtMost : Machine → Image → ℕ → ℕ → Type 0
+EachRunTakesAtMost machine image entry cycles =
     (start : Start) (n : ℕ) → IsStart machine image entry start → Obeys (run_of machine image entry start n) →
     time_of (run_of machine image entry start n) ≤ cycles

@@ -1,11 +1,11 @@
 ghost use Rattle.std.specs.Prelude.{◌≡◌, ℕ, ◌≤◌, ◌<◌, ◌^◌, ◌++◌, List, length, IfOk, IfErr, MatchOption};
 ghost use Rattle.wx_base.specs.Bits.{bytes_of_word};
 ghost use Rattle.wx_base.specs.Machine.{m1, IsMachine};
-ghost use Rattle.wcet_cli.specs.Straight.{IsProgram, bound_of};
+ghost use Rattle.wcet_cli.specs.Straight.{IsProgram, EachRunTakesAtMost, origin, image_of, bound_of};
 ghost use Rattle.wcet_cli.specs.Refusal.{HasFault};
 
 use arm_code::{Op, decode};
-use pipe_time::{Entry, Vector, advance, windows_follow_the_past};
+use pipe_time::{Entry, Vector, advance, windows_follow_the_past, worse_is_no_faster};
 use wx_base::Machine;
 
 /// Where the first word is placed.
@@ -26,9 +26,12 @@ pub fn bound_of_bytes(machine: &Machine, bytes: &[u8]) -> Result<u64, Refusal>
     requires machine { IsMachine machine.now }
     requires size { length bytes.now ≤ 16777216 }
     ensures bound { IfOk result (λ cycles. (program : List ℕ) × IsProgram bytes.now program × (cycles ≡ bound_of machine.now program)) }
+    // And that many cycles are enough: for every run of the program's image on the machine.
+    ensures safe { (program : List ℕ) → IsProgram bytes.now program → EachRunTakesAtMost machine.now (image_of program) origin (bound_of machine.now program) }
     ensures fault { IfErr result (HasFault bytes.now) }
 {
     windows_follow_the_past();
+    worse_is_no_faster();
     let mut pipeline = Vector::zero();
     let mut addr = ORIGIN;
     let mut rest = bytes;

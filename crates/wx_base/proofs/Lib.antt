@@ -2,3 +2,4 @@ pub mod DigitLemmas
 pub mod Found
 pub mod Held
 pub mod MachineLemmas
+pub mod Covered

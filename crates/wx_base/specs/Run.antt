@@ -1,7 +1,8 @@
 -- Runs of an image on the written machine, and how long they take. This project's own.
 use Rattle.std.specs.Prelude.{◌≡◌, ◌≢◌, ℕ, zero, suc, ◌<◌, ◌^◌, Bool, false, not, List, [], ◌∷◌, Option, Some, None, Result, Ok, Err}
 use Rattle.wx_base.specs.declared.machine.Machine.{Machine}
-use Rattle.wx_base.specs.Image.{Image, byte_of}
+use Rattle.wx_base.specs.declared.image.Image.{Image}
+use Rattle.wx_base.specs.Image.{byte_of}
 use Rattle.wx_base.specs.State.{State, pc, current_word, step, Went, Why, Outcome, Next, Ended, Stopped}
 use Rattle.wx_base.specs.Cache.{Lines, IsCache, line_of, holds_line, accessed}
 use Rattle.wx_base.specs.Recurrence.{Entry, Done, next, completion}

@@ -4,7 +4,8 @@ use Rattle.std.specs.Prelude.{ℕ, ◌*◌, Bool, false, ◌==◌, if◌then◌e
 use Rattle.wx_base.specs.declared.machine.Machine.{Machine}
 use Rattle.wx_base.specs.Bits.{word_of_bytes, add_words, sub_words, rotated_right}
 use Rattle.wx_base.specs.Instruction.{Kind, AluImmediate, Svc, kind_of, opcode, rn, rd, rotation, immediate, sub, add}
-use Rattle.wx_base.specs.Image.{Image, is_code_word}
+use Rattle.wx_base.specs.declared.image.Image.{Image}
+use Rattle.wx_base.specs.Image.{is_code_word}
 
 -- the four flags
 pub record Flags : Type 0 where

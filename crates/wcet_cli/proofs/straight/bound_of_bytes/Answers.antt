@@ -1,9 +1,9 @@
-use Rattle.std.proofs.Common.{◌≡◌, ℕ, ◌∙◌, sym, ap, List, [], ◌∷◌, length, ◌++◌, arith, length-append}
+use Rattle.std.proofs.Common.{◌∙◌, sym, ap, [], ◌∷◌, length, arith, length-append}
 use Rattle.wx_base.specs.Bits.{bytes_of_word}
 use Rattle.wx_base.specs.Recurrence.{next, window, Entry}
-use Rattle.wcet_cli.specs.Straight.{missing}
 use Rattle.wcet_cli.proofs.SoFar.{begin, more, ended, cut_off, foreign, has_room}
 use Rattle.wcet_cli.proofs.RowsOf.{none_of, svc_of, alu_of, missing_of}
+use Rattle.wcet_cli.proofs.Running.{every_run_ends_within}
 use Rattle.wcet_cli.proofs.straight.bound_of_bytes.Goals as goal
 
 pub loop-word-init : goal.loop-word-init
@@ -46,3 +46,12 @@ loop-word-preserved c =
 
 pub returns-clause-fault : goal.returns-clause-fault
 returns-clause-fault c = cut_off _ _ _ _ _ c.loop-word.invariant c.in_default.ensures
+
+pub returns-in_default-decode-clause-safe : goal.returns-in_default-decode-clause-safe
+returns-in_default-decode-clause-safe c = λ program p. every_run_ends_within _ _ program c.requires.machine c.requires.size c.worse_is_no_faster.ensures.completion p
+
+pub returns-in-Svc-clause-safe : goal.returns-in-Svc-clause-safe
+returns-in-Svc-clause-safe c = λ program p. every_run_ends_within _ _ program c.requires.machine c.requires.size c.worse_is_no_faster.ensures.completion p
+
+pub returns-clause-safe : goal.returns-clause-safe
+returns-clause-safe c = λ program p. every_run_ends_within _ _ program c.requires.machine c.requires.size c.worse_is_no_faster.ensures.completion p

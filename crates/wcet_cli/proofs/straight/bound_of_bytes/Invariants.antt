@@ -1,4 +1,4 @@
-use Rattle.std.proofs.Common.{ℕ, length}
+use Rattle.std.proofs.Common.{length}
 use Rattle.wcet_cli.proofs.SoFar.{SoFar}
 use Rattle.wcet_cli.proofs.straight.bound_of_bytes.Given as goal
 

@@ -1,4 +1,4 @@
-use Rattle.std.proofs.Common.{◌≡◌, ◌∙◌, ℕ, ◌<◌, get_or, arith}
+use Rattle.std.proofs.Common.{ℕ, ◌<◌, get_or, arith}
 use Rattle.wcet_cli.proofs.Words.{word_first}
 use Rattle.wcet_cli.proofs.straight.split_word.Goals as goal
 
