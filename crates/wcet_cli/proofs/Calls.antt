@@ -1,8 +1,8 @@
 -- From the reply to the words to the end of a call.
-use Rattle.std.proofs.Common.{◌≡◌, ℕ, List, Option, Some, Result, Ok, Err, IfOk, refl, sym, ap, ◌∙◌}
+use Rattle.std.proofs.Common.{ℕ, List, Option, Result, Ok, Err, IfOk}
 use Rattle.wx_base.specs.Outside.{Contents}
 use Rattle.wcet_cli.specs.declared.reply.Reply.{Reply}
-use Rattle.wcet_cli.specs.Call.{IsFlat, FlatCause, HasCause, NoForm, OfFlat, IsSaid, InFull, Wanting, IsAnswer, Says, Starves}
+use Rattle.wcet_cli.specs.Call.{IsFlat, FlatCause, HasCause, OfFlat, IsSaid, InFull, Wanting, IsAnswer, Says, Starves}
 
 -- a reply with its cause is said in full, or memory is wanting
 pub answer_of : (holds : Option Contents) (before after : ℕ) (words : List (List ℕ)) (said : Reply) (status : ℕ) (text : List ℕ) → HasCause holds before after words said → IsSaid said status text → IsAnswer holds before after words status text

@@ -1,11 +1,11 @@
 -- A text that goes over to a sink piece by piece.
-use Rattle.std.proofs.Common.{◌≡◌, ℕ, ◌<◌, ◌≤◌, List, [], ◌∷◌, ◌++◌, length, take, drop, Option, Some, None, Result, Ok, Err, refl, sym, ap, ◌∙◌, arith, append_assoc, subst, length-drop}
+use Rattle.std.proofs.Common.{◌≡◌, ℕ, ◌<◌, List, [], ◌∷◌, ◌++◌, length, take, drop, Option, Some, None, Ok, Err, refl, sym, ap, ◌∙◌, arith, append_assoc, subst, length-drop}
 use Rattle.std.specs.Option.{option_map}
 use Rattle.std.proofs.lemmas.List.{take-append-drop}
 use Rattle.wx_base.specs.declared.sink.SinkFault.{SinkFault}
 use Rattle.wx_base.specs.declared.sink.SinkFault.TheVariants as sink_fault
 use Rattle.wx_base.specs.Outside.{PutGives, Rose}
-use Rattle.wcet_cli.specs.Call.{Took, TookFront, Puts}
+use Rattle.wcet_cli.specs.Call.{Took, Puts}
 
 -- the sink has a front of the text, and the rest is left
 pub record PutSoFar (taken taken' : Option (List ℕ)) (faults faults' : ℕ) (text rest : List ℕ) : Type 0 where

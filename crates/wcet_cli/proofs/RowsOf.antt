@@ -1,8 +1,7 @@
 -- The row of a word, from what it decodes to.
-use Rattle.std.proofs.Common.{◌≡◌, ℕ, ◌<◌, Bool, true, false, List, Option, Some, None, refl, sym, ap, ◌∙◌}
+use Rattle.std.proofs.Common.{◌≡◌, ℕ, Bool, true, false, Option, Some, None, refl, ap}
 use Rattle.std.specs.Option.{option_map}
 use Rattle.wx_base.specs.Instruction.{Kind, AluImmediate, Svc, kind_of}
-use Rattle.wx_base.specs.Recurrence.{Entry}
 use Rattle.arm_code.specs.declared.insn.Insn.{Insn}
 use Rattle.arm_code.specs.declared.insn.Op.TheVariants as op
 use Rattle.arm_code.specs.declared.insn.Operand.{Operand}

@@ -1,15 +1,15 @@
 -- What is known while the words are read one after the other.
-use Rattle.std.proofs.Common.{◌≡◌, ℕ, ◌+◌, ◌*◌, ◌<◌, ◌≤◌, Bool, true, false, List, [], ◌∷◌, ◌++◌, length, map, reverse, Some, None, refl, sym, ap, ◌∙◌, ◌^◌, subst, ⊎_elim, arith, append_assoc, length-append}
+use Rattle.std.proofs.Common.{◌≡◌, ℕ, ◌+◌, ◌*◌, ◌<◌, ◌≤◌, List, [], ◌∷◌, ◌++◌, length, map, reverse, None, refl, sym, ap, ◌∙◌, ◌^◌, subst, ⊎_elim, arith, append_assoc, length-append}
 use Rattle.std.proofs.lemmas.List.{reverse-append, map_push, get_or-replicate, get_or_past}
 use Rattle.std.proofs.lemmas.Bool.{cases_lt}
 use Rattle.std.proofs.lemmas.Grind.{flat_map-append}
 use Rattle.std.proofs.lemmas.List.Concat.{flat_map-cons}
-use Rattle.std.specs.List.{flat_map, AllByRecursion}
+use Rattle.std.specs.List.{AllByRecursion}
 use Rattle.wx_base.specs.declared.machine.Machine.{Machine}
 use Rattle.wx_base.specs.declared.times.Times.{Times}
 use Rattle.wx_base.specs.Bits.{bytes_of_word}
 use Rattle.wx_base.specs.Machine.{IsMachine}
-use Rattle.wx_base.specs.Instruction.{AluImmediate, Svc, kind_of}
+use Rattle.wx_base.specs.Instruction.{kind_of}
 use Rattle.wx_base.specs.Recurrence.{Entry, Done, next, window, past_of, completion}
 use Rattle.wx_base.specs.Vector.{AreWithin, zero_slots}
 use Rattle.pipe_time.specs.Windows.{WindowGivesTimes, WindowGivesWindow, NothingIsZero}

@@ -1,9 +1,9 @@
 -- Words in bytes.
-use Rattle.std.proofs.Common.{◌≡◌, ℕ, ◌<◌, ◌≤◌, List, ◌++◌, length, get_or, take, drop, refl, sym, ap, ◌∙◌, arith}
+use Rattle.std.proofs.Common.{◌≡◌, ℕ, ◌<◌, ◌≤◌, List, ◌++◌, length, get_or, take, drop, sym, ap, ◌∙◌, arith}
 use Rattle.std.proofs.lemmas.List.{take-append-drop, get_or-take, get_or_past, length-take-le}
 use Rattle.std.proofs.lemmas.Nat.{le_bytes_4}
 use Rattle.std.proofs.lemmas.Bool.{cases_lt}
-use Rattle.std.proofs.Common.{⊎_elim, subst}
+use Rattle.std.proofs.Common.{⊎_elim}
 use Rattle.std.specs.Int.{from_le_bytes, w32}
 use Rattle.wx_base.specs.Bits.{bytes_of_word}
 

@@ -1,5 +1,5 @@
 -- What a call of the program means: which reply has its cause, and how the reply is handed over. This project's own.
-use Rattle.std.specs.Prelude.{◌≡◌, ◌≢◌, ◌⊎◌, ℕ, ◌+◌, ◌<◌, ◌≤◌, List, [], ◌∷◌, ◌++◌, length, map, codes, Option, Result, Ok, Err}
+use Rattle.std.specs.Prelude.{◌≡◌, ℕ, List, [], ◌∷◌, ◌++◌, codes, Option, Result, Ok, Err}
 use Rattle.std.specs.Option.{option_map}
 use Rattle.wx_base.specs.declared.sink.SinkFault.{SinkFault}
 use Rattle.wx_base.specs.declared.sink.SinkFault.TheVariants as sink_fault
@@ -8,7 +8,7 @@ use Rattle.wx_base.specs.Outside.{Contents, Rose, IsWhole, IsCut, IsMissing}
 use Rattle.wcet_cli.specs.Straight.{IsProgram, IsCutOff, IsForeign, bound_of}
 use Rattle.wcet_cli.specs.declared.reply.Reply.{Reply}
 use Rattle.wcet_cli.specs.declared.reply.Reply.TheVariants as reply
-use Rattle.wcet_cli.specs.Reply.{status_of, text_of, memory_line, answered, unwritten, starved}
+use Rattle.wcet_cli.specs.Reply.{status_of, text_of, memory_line, unwritten, starved}
 
 -- the words are `flat` and the name of a file
 abbrev pub IsFlat : List (List ℕ) → List ℕ → Type 0

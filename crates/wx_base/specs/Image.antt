@@ -1,5 +1,5 @@
 -- What an executable puts into memory. System V ABI, "Program Header" and "Program Loading".
-use Rattle.std.specs.Prelude.{◌≡◌, ℕ, ◌+◌, ◌-◌, ◌%◌, Bool, true, false, ◌&&◌, ◌==◌, IsTrue, Any, nat_le, nat_lt, List, [], ◌∷◌, length, slice_index, Option, Some, None, find, option_map}
+use Rattle.std.specs.Prelude.{ℕ, ◌+◌, ◌-◌, ◌%◌, Bool, true, ◌&&◌, ◌==◌, IsTrue, Any, nat_le, nat_lt, List, [], ◌∷◌, length, slice_index, Option, Some, None, find, option_map}
 use Rattle.std.specs.List.{list_any}
 use Rattle.wx_base.specs.declared.image.Image.{Image}
 use Rattle.wx_base.specs.declared.image.Segment.{Segment}

@@ -3,7 +3,7 @@ use Rattle.std.specs.Prelude.{◌≡◌, ◌≢◌, ℕ, zero, suc, ◌<◌, ◌
 use Rattle.wx_base.specs.declared.machine.Machine.{Machine}
 use Rattle.wx_base.specs.declared.image.Image.{Image}
 use Rattle.wx_base.specs.Image.{byte_of}
-use Rattle.wx_base.specs.State.{State, pc, current_word, step, Went, Why, Outcome, Next, Ended, Stopped}
+use Rattle.wx_base.specs.State.{State, pc, current_word, step, Why, Outcome, Next, Ended, Stopped}
 use Rattle.wx_base.specs.Cache.{Lines, IsCache, line_of, holds_line, accessed}
 use Rattle.wx_base.specs.Recurrence.{Entry, Done, next, completion}
 use Rattle.wx_base.specs.Monitor.{Frame, Breach, first_frame, passed, judged}

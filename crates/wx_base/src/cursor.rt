@@ -8,6 +8,7 @@ ghost use Rattle.wx_base.specs.Cursor.{Reading, rest, stepped, leading_digits, n
 use std::marker::Model;
 
 /// A place in a text that is read from its front to its back. It takes no memory.
+#[derive(Drop)]
 pub struct Cursor<'a> {
     bytes: &'a [u8],
     place: usize,

@@ -1,5 +1,5 @@
 use Rattle.wx_base.specs.Instruction.{register_bit}
-use Rattle.std.proofs.Common.{◌^◌, ◌∙◌, sym, eqb, arith}
+use Rattle.std.proofs.Common.{◌∙◌, sym, eqb, arith}
 use Rattle.std.proofs.lemmas.Bool.{cond-true, cond-false, ne_eqb, eq-eqb}
 use Rattle.arm_code.proofs.Timing.{alu_columns, svc_columns}
 use Rattle.arm_code.proofs.columns.reads.Goals as goal
