@@ -6,3 +6,6 @@ pub mod TwoWords
 pub mod Calls
 pub mod Placed
 pub mod Running
+pub mod Reading
+pub mod Ends
+pub mod Due

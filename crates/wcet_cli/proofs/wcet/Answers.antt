@@ -1,7 +1,24 @@
+use Rattle.std.proofs.Common.{List, Option, map, string_bytes, subst}
+use Rattle.wx_base.specs.Outside.{Contents}
+use Rattle.wcet_cli.specs.Call.{HasCause}
 use Rattle.wcet_cli.proofs.Calls.{answer_of}
+use Rattle.wcet_cli.proofs.Ends.{at_zero}
+use Rattle.wcet_cli.proofs.Due.{one_is_due, no_fault, due_ends}
 use Rattle.wcet_cli.proofs.wcet.Goals as goal
 
 pub returns-in-Ok-clause-answer : goal.returns-in-Ok-clause-answer
 returns-in-Ok-clause-answer g c =
-    let said = c.say.ensures in
+    let said = c.say.ensures.answer in
     (said.0, said.1, answer_of _ _ _ _ _ _ _ c.in-Ok.ensures.cause said.2, said.3)
+
+pub returns-in-Ok-clause-bound : goal.returns-in-Ok-clause-bound
+returns-in-Ok-clause-bound g c =
+    at_zero _ _ _ _ _ _ _ _ _ c.m1_is_in_range.ensures c.worse_is_no_faster.ensures.completion (returns-in-Ok-clause-answer g c)
+
+pub returns-in-Ok-clause-due : goal.returns-in-Ok-clause-due
+returns-in-Ok-clause-due g c contents due told cause free read_fine sink_fine =
+    let said = c.in-Ok.reply in
+    let fine = no_fault _ _ _ _ said _ c.in-Ok.ensures.cause c.in-Ok.ensures.sound read_fine in
+    let cause' = subst (λ (holds : Option Contents). HasCause holds (g.S.Store.read_faults c.args.store.now) (g.S.Store.read_faults c.reply_to.new.store) (map string_bytes c.args.words.now) said) told c.in-Ok.ensures.cause in
+    due_ends _ _ _ _ _ _ said due c.say.ensures.answer c.say.ensures.sound sink_fine
+    (one_is_due contents _ _ _ _ _ said due cause' cause fine free)
