@@ -13,6 +13,8 @@ mod handing;
 mod reply;
 mod status;
 mod straight;
+#[cfg(test)]
+mod tests;
 
 use crate::command::flat_code;
 use crate::handing::hand_over;

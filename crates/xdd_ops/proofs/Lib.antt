@@ -1,0 +1,4 @@
+mod ApplyLemmas
+mod GreatestLemmas
+mod PairLemmas
+mod TextLemmas

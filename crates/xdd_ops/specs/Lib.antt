@@ -1,0 +1,3 @@
+pub mod Cofactors
+pub mod Pairs
+pub mod Text

@@ -1,0 +1,97 @@
+ghost use Rattle.std.specs.Prelude.{◌≡◌, ℕ, ◌<◌, List, [], ◌++◌, length, slice_get, slice_index, EachIndex, OnOk, OnErr, IfOk};
+ghost use Rattle.xdd_table.specs.Order.{Finishes};
+ghost use Rattle.xdd_ops.specs.Text.{leaf_line, branch_line, line_at, lines_of, diagram_text};
+
+use std::alloc::Global;
+use wx_base::{NoMemory, push_number};
+use xdd_table::{Dd, Node, Order, Table};
+
+/// Appends the diagram's text: `dd N` and N lines, each `leaf T` or `branch E H M`.
+///
+/// E is an event, T a time in cycles, H and M are the numbers, from 0, of the earlier lines of the branches where E hits and
+/// misses. The lines are the nodes as a walk finishes them that goes to the hit branch first and to each node once.
+pub fn print_diagram(alloc: Global, out: &mut Vec<u8>, table: &Table, d: Dd) -> Result<(), NoMemory>
+    requires { d.place < length table.now }
+    ensures written { OnOk result ((places : List ℕ) × Finishes table.now d.place [] places × (out.new.items ≡ out.old.items ++ diagram_text table.now places)) }
+    ensures kept { OnErr result (out.new.items ≡ out.old.items) }
+{
+    let text = text_of(alloc, table, d)?;
+    out.extend_from_slice(text.as_slice())?;
+    Ok(())
+}
+
+/// The diagram's text.
+fn text_of(alloc: Global, table: &Table, d: Dd) -> Result<Vec<u8>, NoMemory>
+    requires { d.place < length table.now }
+    ensures { IfOk result (λ text. (places : List ℕ) × Finishes table.now d.place [] places × (text.items ≡ diagram_text table.now places)) }
+{
+    let order = table.order(d)?;
+    let mut text = Vec::from_slice(alloc, b"dd ")?;
+    push_number(alloc, &mut text, order.places().len() as i128)?;
+    text.extend_from_slice(b"\n")?;
+    push_lines(alloc, &mut text, table, &order)?;
+    Ok(text)
+}
+
+fn push_lines(
+    alloc: Global,
+    text: &mut Vec<u8>,
+    table: &Table,
+    order: &Order,
+) -> Result<(), NoMemory>
+    requires { EachIndex order.now (λ k. slice_index order.now k < length table.now) }
+    ensures { OnOk result (text.new.items ≡ text.old.items ++ lines_of table.now order.now order.now) }
+{
+    for place in order.places() {
+        push_line(alloc, text, table, order, Dd { place: *place })?;
+    }
+    Ok(())
+}
+
+fn push_line(
+    alloc: Global,
+    text: &mut Vec<u8>,
+    table: &Table,
+    order: &Order,
+    d: Dd,
+) -> Result<(), NoMemory>
+    requires { d.place < length table.now }
+    ensures { OnOk result (text.new.items ≡ text.old.items ++ line_at order.now (slice_get table.now d.place)) }
+{
+    match table.node(d) {
+        Node::Leaf { time } => push_leaf(alloc, text, time),
+        Node::Branch { event, hit, miss } => {
+            let hit = order.position(hit).unwrap_or(0);
+            let miss = order.position(miss).unwrap_or(0);
+            push_branch(alloc, text, event, hit, miss)
+        }
+    }
+}
+
+fn push_leaf(alloc: Global, text: &mut Vec<u8>, time: u64) -> Result<(), NoMemory>
+    ensures { OnOk result (text.new.items ≡ text.old.items ++ leaf_line time) }
+{
+    text.extend_from_slice(b"leaf ")?;
+    push_number(alloc, text, i128::from(time))?;
+    text.extend_from_slice(b"\n")?;
+    Ok(())
+}
+
+fn push_branch(
+    alloc: Global,
+    text: &mut Vec<u8>,
+    event: u32,
+    hit: usize,
+    miss: usize,
+) -> Result<(), NoMemory>
+    ensures { OnOk result (text.new.items ≡ text.old.items ++ branch_line event hit miss) }
+{
+    text.extend_from_slice(b"branch ")?;
+    push_number(alloc, text, i128::from(event))?;
+    text.extend_from_slice(b" ")?;
+    push_number(alloc, text, hit as i128)?;
+    text.extend_from_slice(b" ")?;
+    push_number(alloc, text, miss as i128)?;
+    text.extend_from_slice(b"\n")?;
+    Ok(())
+}

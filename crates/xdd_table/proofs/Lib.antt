@@ -1,0 +1,5 @@
+pub mod Canonical
+mod LeafLemmas
+mod OrderLemmas
+mod StoreLemmas
+pub mod TimeLaws
