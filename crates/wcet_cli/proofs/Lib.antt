@@ -9,3 +9,4 @@ pub mod Running
 pub mod Reading
 pub mod Ends
 pub mod Due
+pub mod SomeDue

@@ -1,5 +1,6 @@
 -- What a call of the program means: which reply has its cause, and how the reply is handed over. This project's own.
-use Rattle.std.specs.Prelude.{◌≡◌, ◌⊎◌, ◌≤◌, ℕ, List, [], ◌∷◌, ◌++◌, length, codes, Option, Result, Ok, Err}
+use Rattle.std.specs.Prelude.{◌≡◌, ◌⊎◌, ◌<◌, ◌≤◌, ℕ, List, [], ◌∷◌, ◌++◌, length, codes, Option, Some, Result, Ok, Err}
+use Rattle.std.specs.List.{AllByRecursion}
 use Rattle.std.specs.Option.{option_map}
 use Rattle.wx_base.specs.declared.sink.SinkFault.{SinkFault}
 use Rattle.wx_base.specs.declared.sink.SinkFault.TheVariants as sink_fault
@@ -8,6 +9,7 @@ use Rattle.wx_base.specs.Outside.{Contents, Rose, IsWhole, IsCut, IsMissing, lon
 use Rattle.wcet_cli.specs.Straight.{IsProgram, IsCutOff, IsForeign, EachRunTakesAtMost, image_of, origin, bound_of}
 use Rattle.wcet_cli.specs.declared.reply.Reply.{Reply}
 use Rattle.wcet_cli.specs.declared.reply.Reply.TheVariants as reply
+use Rattle.wcet_cli.specs.Flat.{IsNoFault}
 use Rattle.wcet_cli.specs.Reply.{status_of, text_of, memory_line, unwritten, starved}
 
 -- the words are `flat` and the name of a file
@@ -114,3 +116,20 @@ pub record IsTooLarge (holds : Option Contents) (words : List (List ℕ)) : Type
 -- the call ends with this reply, or for want of memory
 abbrev pub EndsWith : Option (List ℕ) → Option (List ℕ) → Reply → ℕ → Type 0
 EndsWith taken taken' said ends = (ends ≡ starved) ⊎ ((ends ≡ status_of said) × Took taken taken' (text_of said))
+
+-- the contents are bytes
+abbrev pub AreBytes : Contents → Type 0
+AreBytes contents = (name bytes : List ℕ) → contents name ≡ Some bytes → AllByRecursion (λ byte. byte < 256) bytes
+
+-- Whatever the words and whatever a store holds, some reply has its cause without a fault.
+abbrev pub SomeReplyIsDue : Type 0
+SomeReplyIsDue =
+    (contents : Contents) (words : List (List ℕ)) → AreBytes contents →
+    (due : Reply) × HasCause (Some contents) 0 0 words due × IsNoFault due
+
+-- And no other has.
+abbrev pub NoOtherIsDue : Type 0
+NoOtherIsDue =
+    (contents : Contents) (words : List (List ℕ)) (due other : Reply) →
+    HasCause (Some contents) 0 0 words due → HasCause (Some contents) 0 0 words other → IsNoFault due → IsNoFault other →
+    due ≡ other

@@ -10,6 +10,7 @@ ghost use Rattle.wcet_cli.specs.Flat.{IsNoFault};
 mod command;
 mod flat;
 mod handing;
+mod laws;
 mod reply;
 mod status;
 mod straight;
@@ -20,6 +21,7 @@ use crate::command::flat_code;
 use crate::handing::hand_over;
 use crate::reply::Reply;
 use crate::status::STARVED;
+pub use laws::one_reply_is_due;
 use pipe_time::worse_is_no_faster;
 use std::alloc::Global;
 use wx_base::{Machine, NoMemory, Sink, Store};
@@ -69,6 +71,7 @@ pub fn wcet<S: Store, O: Sink>(alloc: Global, words: &[String], store: &mut S, o
     // What stays: no name changes, and a call reads no more files than its words name.
     ensures holds { S.holds store.new ≡ S.holds store.old }
     ensures asked { S.asked store.new ≤ S.asked store.old + input_files }
+    ensures unasked { ¬ FitsForm (map string_bytes words.now) → S.asked store.new ≡ S.asked store.old }
     ensures write_faults { S.write_faults store.new ≡ S.write_faults store.old }
 {
     worse_is_no_faster();
@@ -91,6 +94,7 @@ fn reply_to<S: Store>(alloc: Global, words: &[String], store: &mut S) -> Result<
     ensures cause { IfOk result (HasCause (S.holds store.old) (S.read_faults store.old) (S.read_faults store.new) (map string_bytes words.now)) }
     ensures holds { S.holds store.new ≡ S.holds store.old }
     ensures asked { S.asked store.new ≤ S.asked store.old + input_files }
+    ensures unasked { ¬ FitsForm (map string_bytes words.now) → S.asked store.new ≡ S.asked store.old }
     ensures write_faults { S.write_faults store.new ≡ S.write_faults store.old }
     ensures reliable { S.reliable store.old → S.reliable store.new }
     ensures sound { S.reliable store.old → IfOk result IsNoFault }

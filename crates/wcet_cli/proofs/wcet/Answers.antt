@@ -2,7 +2,7 @@ use Rattle.std.proofs.Common.{List, Option, map, string_bytes, subst}
 use Rattle.wx_base.specs.Outside.{Contents}
 use Rattle.wcet_cli.specs.Call.{HasCause}
 use Rattle.wcet_cli.proofs.Calls.{answer_of}
-use Rattle.wcet_cli.proofs.Ends.{at_zero}
+use Rattle.wcet_cli.proofs.Ends.{at_zero, at_one, at_two, at_three, at_four, at_ten, by_fault}
 use Rattle.wcet_cli.proofs.Due.{one_is_due, no_fault, due_ends}
 use Rattle.wcet_cli.proofs.wcet.Goals as goal
 
@@ -22,3 +22,21 @@ returns-in-Ok-clause-due g c contents due told cause free read_fine sink_fine =
     let cause' = subst (λ (holds : Option Contents). HasCause holds (g.S.Store.read_faults c.args.store.now) (g.S.Store.read_faults c.reply_to.new.store) (map string_bytes c.args.words.now) said) told c.in-Ok.ensures.cause in
     due_ends _ _ _ _ _ _ said due c.say.ensures.answer c.say.ensures.sound sink_fine
     (one_is_due contents _ _ _ _ _ said due cause' cause fine free)
+
+pub returns-in-Ok-clause-misused : goal.returns-in-Ok-clause-misused
+returns-in-Ok-clause-misused g c = at_one _ _ _ _ _ _ _ _ _ (returns-in-Ok-clause-answer g c)
+
+pub returns-in-Ok-clause-unread : goal.returns-in-Ok-clause-unread
+returns-in-Ok-clause-unread g c = at_two _ _ _ _ _ _ _ _ _ (returns-in-Ok-clause-answer g c)
+
+pub returns-in-Ok-clause-unwritten : goal.returns-in-Ok-clause-unwritten
+returns-in-Ok-clause-unwritten g c = at_three _ _ _ _ _ _ _ _ _ (returns-in-Ok-clause-answer g c)
+
+pub returns-in-Ok-clause-refused_image : goal.returns-in-Ok-clause-refused_image
+returns-in-Ok-clause-refused_image g c = at_four _ _ _ _ _ _ _ _ _ (returns-in-Ok-clause-answer g c)
+
+pub returns-in-Ok-clause-too_large : goal.returns-in-Ok-clause-too_large
+returns-in-Ok-clause-too_large g c = at_ten _ _ _ _ _ _ _ _ _ (returns-in-Ok-clause-answer g c)
+
+pub returns-in-Ok-clause-sink_fault : goal.returns-in-Ok-clause-sink_fault
+returns-in-Ok-clause-sink_fault g c = by_fault _ _ _ _ _ _ _ _ _ (returns-in-Ok-clause-answer g c)

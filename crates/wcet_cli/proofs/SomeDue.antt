@@ -1,0 +1,163 @@
+-- Some reply is due, whatever a store holds.
+use Rattle.std.proofs.Common.{◌≡◌, ℕ, ◌+◌, ◌*◌, ◌/◌, ◌%◌, ◌^◌, ◌<◌, ◌≤◌, ◌⊎◌, inl, inr, Bool, true, false, List, [], ◌∷◌, ◌++◌, length, take, drop, get_or, Option, Some, None, refl, sym, ap, ◌∙◌, subst, ⊎_elim, arith, append_assoc, length-append, length-drop}
+use Rattle.std.specs.Prelude.{codes}
+use Rattle.std.specs.List.{AllByRecursion}
+use Rattle.std.specs.Int.{from_le_bytes, w32}
+use Rattle.std.proofs.lemmas.List.{take-append-drop, length-take-le}
+use Rattle.std.proofs.lemmas.List.Concat.{flat_map-cons}
+use Rattle.std.proofs.lemmas.Nat.{le_bytes_4}
+use Rattle.std.proofs.lemmas.Bool.{cases_lt, cases_Bool}
+use Rattle.std.proofs.lemmas.Slice.Eq.{bytes_eq-Decides}
+use Rattle.std.specs.Str.{bytes_eq}
+use Rattle.wx_base.specs.Bits.{bytes_of_word}
+use Rattle.wx_base.specs.Machine.{m1}
+use Rattle.wx_base.specs.Instruction.{Kind, AluImmediate, Svc, kind_of}
+use Rattle.wx_base.specs.Outside.{Contents}
+use Rattle.wcet_cli.specs.declared.reply.Reply.{Reply}
+use Rattle.wcet_cli.specs.declared.reply.Reply.TheVariants as reply
+use Rattle.wcet_cli.specs.Straight.{origin, IsPlain, IsLast, bytes_of, address_behind, IsProgram, IsCutOff, IsForeign, bound_of}
+use Rattle.wcet_cli.specs.Flat.{IsBoundReply, IsNoFault}
+use Rattle.wcet_cli.specs.Call.{FitsForm, IsFlat, FlatCause, HasCause, NoForm, OfFlat, AreBytes}
+
+-- how the words of some bytes go, from a number of words on
+data Course (bytes : List ℕ) : Type 0 where
+  Program : (program : List ℕ) → IsProgram bytes program → Course bytes
+  CutOff : (address : ℕ) → IsCutOff bytes address → Course bytes
+  Foreign : (address word : ℕ) → IsForeign bytes address word → Course bytes
+
+put_before : (word : ℕ) (body after : List ℕ) → bytes_of_word word ++ (bytes_of body ++ after) ≡ bytes_of (word ∷ body) ++ after
+put_before word body after =
+    sym (ap (λ (x : List ℕ). x ++ after) (flat_map-cons bytes_of_word word body) ∙ append_assoc (bytes_of_word word) (bytes_of body) after)
+
+-- one more plain word before them
+before : (word : ℕ) (bytes : List ℕ) → IsPlain word → Course bytes → Course (bytes_of_word word ++ bytes)
+before word bytes plain (Program program p) = Program (word ∷ program) (record {
+  body = word ∷ p.body;
+  last = p.last;
+  rest = p.rest;
+  words_are = ap (λ ws. word ∷ ws) p.words_are;
+  spelled = ap (λ x. bytes_of_word word ++ x) p.spelled ∙ put_before word program p.rest;
+  plain = (plain, p.plain);
+  ends = p.ends;
+})
+before word bytes plain (CutOff address c) = CutOff (address_behind (word ∷ c.body)) (record {
+  body = word ∷ c.body;
+  rest = c.rest;
+  spelled = ap (λ x. bytes_of_word word ++ x) c.spelled ∙ put_before word c.body c.rest;
+  plain = (plain, c.plain);
+  short = c.short;
+  at = refl;
+})
+before word bytes plain (Foreign address other f) = Foreign (address_behind (word ∷ f.body)) other (record {
+  body = word ∷ f.body;
+  rest = f.rest;
+  spelled = ap (λ x. bytes_of_word word ++ x) f.spelled ∙ ap (λ x. bytes_of_word word ++ x) (append_assoc (bytes_of f.body) (bytes_of_word other) f.rest)
+      ∙ put_before word f.body (bytes_of_word other ++ f.rest) ∙ sym (append_assoc (bytes_of (word ∷ f.body)) (bytes_of_word other) f.rest);
+  plain = (plain, f.plain);
+  fits = f.fits;
+  not_plain = f.not_plain;
+  not_last = f.not_last;
+  at = refl;
+})
+
+-- four bytes are the bytes of a word
+four : (a b c d : ℕ) → a < 256 → b < 256 → c < 256 → d < 256 → (word : ℕ) × (word < 2 ^ 32) × (a ∷ b ∷ c ∷ d ∷ [] ≡ bytes_of_word word)
+four a b c d p q r s =
+    (a + 256 * b + 65536 * c + 16777216 * d, omega arith, parts (a + 256 * b + 65536 * c + 16777216 * d) (omega arith) (omega arith) (omega arith) (omega arith))
+  where
+    parts : (word : ℕ) → a ≡ word % 256 → b ≡ word / 256 % 256 → c ≡ word / 65536 % 256 → d ≡ word / 16777216 % 256 → a ∷ b ∷ c ∷ d ∷ [] ≡ bytes_of_word word
+    parts word e f g h = rw (e, f, g, h) refl
+
+by_kind : (word : ℕ) (bytes : List ℕ) (kind : Option Kind) → word < 2 ^ 32 → kind_of word ≡ kind → Course bytes → Course (bytes_of_word word ++ bytes)
+by_kind word bytes None small e later = Foreign origin word (record {
+  body = [];
+  rest = bytes;
+  spelled = refl;
+  plain = tt;
+  fits = small;
+  not_plain = λ h. cc;
+  not_last = λ h. cc;
+  at = refl;
+})
+by_kind word bytes (Some AluImmediate) small e later = before word bytes (record { fits = small; kind = e }) later
+by_kind word bytes (Some Svc) small e later = Program (word ∷ []) (record {
+  body = [];
+  last = word;
+  rest = bytes;
+  words_are = refl;
+  spelled = ap (λ x. x ++ bytes) (sym (flat_map-cons bytes_of_word word []));
+  plain = tt;
+  ends = record { fits = small; kind = e };
+})
+
+ends_short : (bytes : List ℕ) → length bytes < 4 → Course bytes
+ends_short bytes short = CutOff origin (record { body = []; rest = bytes; spelled = refl; plain = tt; short = short; at = refl })
+
+course : (bytes : List ℕ) → AllByRecursion (λ byte. byte < 256) bytes → Course bytes
+course [] all = ends_short [] (omega arith)
+course (a ∷ []) all = ends_short (a ∷ []) (omega arith)
+course (a ∷ b ∷ []) all = ends_short (a ∷ b ∷ []) (omega arith)
+course (a ∷ b ∷ c ∷ []) all = ends_short (a ∷ b ∷ c ∷ []) (omega arith)
+course (a ∷ b ∷ c ∷ d ∷ bytes) all =
+    let word = four a b c d all.0 all.1.0 all.1.1.0 all.1.1.1.0 in
+    subst Course (ap (λ x. x ++ bytes) (sym word.2))
+    (by_kind word.0 bytes (kind_of word.0) word.1 refl (course bytes all.1.1.1.1))
+
+-- the reply that the content of a file calls for
+record Due (holds : Option Contents) (name : List ℕ) : Type 0 where
+  due : Reply
+  cause : FlatCause holds 0 0 name due
+  free : IsNoFault due
+
+of_course : (contents : Contents) (name bytes : List ℕ) → contents name ≡ Some bytes → length bytes ≤ 16777216 → Course bytes → Due (Some contents) name
+of_course contents name bytes e l (Program program p) = record { due = reply.Bound (bound_of m1 program); cause = (bytes, program, (l, e), p, refl); free = tt }
+of_course contents name bytes e l (CutOff address c) = record { due = reply.LeavesCode address; cause = (bytes, (l, e), c); free = tt }
+of_course contents name bytes e l (Foreign address word f) = record { due = reply.Unsupported address word; cause = (bytes, (l, e), f); free = tt }
+
+of_long : (contents : Contents) (name bytes : List ℕ) → contents name ≡ Some bytes → 16777216 < length bytes → Due (Some contents) name
+of_long contents name bytes e l = record {
+  due = reply.LongFile name;
+  cause = (refl, (take 16777216 bytes, (front bytes 16777216 (omega arith), (drop 16777216 bytes, rest bytes 16777216 l, e ∙ ap Some (sym (take-append-drop 16777216 bytes))))));
+  free = tt;
+}
+  where
+    front : (bytes : List ℕ) (n : ℕ) → n ≤ length bytes → length (take n bytes) ≡ n
+    front bytes n p = length-take-le n bytes p
+
+    rest : (bytes : List ℕ) (n : ℕ) → n < length bytes → 0 < length (drop n bytes)
+    rest bytes n p = omega (arith, length-drop n bytes)
+
+of_content : (contents : Contents) (name : List ℕ) (content : Option (List ℕ)) → contents name ≡ content → AreBytes contents → Due (Some contents) name
+of_content contents name None e all = record { due = reply.Missing name; cause = (refl, e); free = tt }
+of_content contents name (Some bytes) e all =
+    ⊎_elim (λ (long : 16777216 < length bytes). of_long contents name bytes e long)
+    (λ (short : length bytes ≤ 16777216). of_course contents name bytes e short (course bytes (all name bytes e)))
+    (cases_lt 16777216 (length bytes))
+
+-- the words are `flat` and a name, or they are not
+form : (words : List (List ℕ)) → FitsForm words ⊎ (FitsForm words → ⊥)
+form [] = inr (λ f. cc_form f.1)
+  where
+    cc_form : {name : List ℕ} → [] ≡ codes "flat" ∷ name ∷ [] → ⊥
+    cc_form e = cc
+form (w ∷ []) = inr (λ f. let e = f.1 in cc)
+form (w ∷ name ∷ []) = by_test (bytes_eq w (codes "flat")) refl
+  where
+    by_test : (b : Bool) → bytes_eq w (codes "flat") ≡ b → FitsForm (w ∷ name ∷ []) ⊎ (FitsForm (w ∷ name ∷ []) → ⊥)
+    by_test true e = inl (name, ap (λ x. x ∷ name ∷ []) ((bytes_eq-Decides w (codes "flat")).0 e))
+    by_test false e = inr (λ f. let same : w ≡ codes "flat" = first f.1 in no ((bytes_eq-Decides w (codes "flat")).1 same) e)
+      where
+        first : {x : List ℕ} → w ∷ name ∷ [] ≡ codes "flat" ∷ x ∷ [] → w ≡ codes "flat"
+        first h = cc
+
+        no : bytes_eq w (codes "flat") ≡ true → bytes_eq w (codes "flat") ≡ false → ⊥
+        no p q = cc
+form (w ∷ name ∷ x ∷ words) = inr (λ f. let e = f.1 in cc)
+
+-- some reply is due
+pub some_is_due : (contents : Contents) (words : List (List ℕ)) → AreBytes contents → (due : Reply) × HasCause (Some contents) 0 0 words due × IsNoFault due
+some_is_due contents words all =
+    ⊎_elim
+    (λ (fits : FitsForm words). let d = of_content contents fits.0 (contents fits.0) refl all in (d.due, OfFlat fits.0 fits.1 d.cause, d.free))
+    (λ (none : FitsForm words → ⊥). (reply.Usage, NoForm none refl, tt))
+    (form words)

@@ -1,0 +1,9 @@
+//! Laws of the replies. Each function does nothing: its contract is the law.
+
+ghost use Rattle.wcet_cli.specs.Call.{SomeReplyIsDue, NoOtherIsDue};
+
+/// Whatever the words and whatever a store holds, exactly one reply is due where nothing fails.
+pub fn one_reply_is_due()
+    ensures some { SomeReplyIsDue }
+    ensures no_other { NoOtherIsDue }
+{}
