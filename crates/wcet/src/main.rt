@@ -2,25 +2,32 @@
 //! output.
 #![tactic(auto)]
 
-use std::alloc::Global;
 use std::process::ExitCode;
 use std::{env, io};
 use wcet_cli::wcet;
 use wx_base::{HostSink, HostStore};
 
-/// The status where the words cannot be had: want of memory.
-const NO_WORDS: u8 = 9;
+/// The status where memory is wanting for the words themselves.
+const STARVED: u8 = 9;
 
 fn main(rt: HostRuntime) -> ExitCode {
-    match words(&rt) {
-        Ok(words) => {
-            let mut store = HostStore::new(&rt);
-            let mut sink = HostSink::new(&rt);
-            let status = wcet(rt.alloc(), words.as_slice(), &mut store, &mut sink);
-            ExitCode::from(status)
+    let status = match words(&rt) {
+        Ok(words) => run(&rt, words.as_slice()),
+        Err(error) if error.kind() == io::ErrorKind::OutOfMemory => {
+            let _ = println!(rt; "memory");
+            STARVED
         }
-        Err(_) => ExitCode::from(NO_WORDS),
-    }
+        // A word that is no text fits no form.
+        Err(_) => run(&rt, &[]),
+    };
+    ExitCode::from(status)
+}
+
+/// The status of the command that the words are, over the system's files and standard output.
+fn run(rt: &HostRuntime, words: &[String]) -> u8 {
+    let mut store = HostStore::new(rt);
+    let mut sink = HostSink::new(rt);
+    wcet(rt.alloc(), words, &mut store, &mut sink)
 }
 
 /// The words of the command line, without the program's name.

@@ -1,4 +1,6 @@
-/// The statuses that a call of the program can end with.
+//! The statuses that a call of the program can end with.
+
+/// The defined answer.
 pub const ANSWERED: u8 = 0;
 /// The words fit no form.
 pub const MISUSED: u8 = 1;
