@@ -1,67 +1,185 @@
--- The timing columns of an instruction are those of its word.
-use Rattle.std.proofs.Common.{◌∙◌, subst, ◌≡◌, ℕ, ◌*◌, ◌%◌, ◌<◌, ◌^◌, Bool, cond, eqb, Some, refl, sym, arith}
-use Rattle.std.proofs.lemmas.Nat.{one_shl}
-use Rattle.std.proofs.lemmas.Bool.{cond-false, ne_eqb}
-use Rattle.wx_base.specs.declared.machine.UnitKind.TheVariants as unit_kind
-use Rattle.wx_base.specs.Instruction.{register_bit, AluImmediate, Svc, kind_of, opcode, rn, rd, reads_of, writes_of, unit_of, transfers_of}
+-- The columns of an instruction are those of its word.
+use Rattle.std.proofs.Common.{◌≡◌, ◌≤◌, ℕ, ◌<◌, ◌^◌, Bool, true, false, cond, not, ◌&&◌, ◌||◌, eqb, Option, inl, inr, refl, sym, ap, ◌∙◌, subst, arith}
+use Rattle.std.proofs.lemmas.Bool.{and_parts, eqb-false, not-true}
+use Rattle.std.proofs.lemmas.Nat.{zero_from_ones, ones-le}
+use Rattle.wx_base.specs.Bits.{is_in}
+use Rattle.std.specs.Prelude.{bit_or, count_ones}
+use Rattle.std.specs.Option.{option_map_or}
+use Rattle.wx_base.specs.declared.machine.UnitKind.TheVariants as UnitKind
+use Rattle.wx_base.specs.Instruction.{Kind, AluImmediate, AluShift, AluByRegister, Mul, MulLong, SingleImmediate, SingleRegister, HalfImmediate, HalfRegister, Block, Branch, Exchange, Svc, MovPcLr, row_of, meets, condition, is_load, half_sort, is_before, writes_back, changes_base, operands_read_by, reads_by, writes_by, unit_by, transfers_by, reads_of, writes_of, unit_of, transfers_of, transfer_reads, transfer_writes, register_bit, rn, rd, rm, always, flags_bit, where_so, block_list, is_block_setting, is_not_pc}
 use Rattle.arm_code.specs.declared.insn.Insn.{Insn}
-use Rattle.arm_code.specs.declared.insn.Op.TheVariants as op
-use Rattle.arm_code.specs.declared.insn.Operand.{Operand}
-use Rattle.arm_code.specs.Encoding.{IsValid, word_of}
-use Rattle.arm_code.proofs.Rows.{alu, alu_read, svc_read, valid_alu, proper_alu, same_insn}
+use Rattle.arm_code.specs.declared.insn.HalfKind.TheVariants.{Ldrh, Strh, Ldrsb, Ldrsh}
+use Rattle.arm_code.specs.Encoding.{op_by, index_by, half_kind_by, word_of, IsValid}
+use Rattle.arm_code.specs.Columns.{op_reads, insn_reads, op_writes, op_unit, op_transfers, half_loads, index_changes}
+use Rattle.arm_code.proofs.Spelling.{ReadBy, read_by, word_decodes, HalfBits, half_bits, also_of}
 
--- the columns of a word
-pub record HasColumns (word reads writes transfers : ℕ) : Type 0 where
-  pub reads_are : reads_of word ≡ reads
-  pub writes_are : writes_of word ≡ writes
-  pub unit_is : unit_of word ≡ unit_kind.Alu
-  pub transfers_are : transfers_of word ≡ transfers
+-- the row of a valid instruction's word
+pub row_of_valid : (insn : Insn) → IsValid insn → ReadBy (word_of insn) insn
+row_of_valid insn v = read_by (word_of insn) insn (word_decodes insn v)
 
-alu_columns_of : (word code first to : ℕ) → kind_of word ≡ Some AluImmediate → opcode word ≡ code → rn word ≡ first → rd word ≡ to → HasColumns word (cond (eqb code 13) 0 (register_bit first)) (register_bit to) 1
-unfolding reads_of writes_of unit_of transfers_of
-alu_columns_of word code first to k c f t = record {
-  reads_are = rw (k, c, f) refl;
-  writes_are = rw (k, t) refl;
-  unit_is = rw k refl;
-  transfers_are = rw k refl;
+changes_is : (before back : Bool) → index_changes (index_by before back) ≡ changes_base before back
+changes_is true true = refl
+changes_is true false = refl
+changes_is false true = refl
+changes_is false false = refl
+
+loads_by_tests : (load half third : Bool) → (load || half) ≡ true → half_loads (cond half (cond load Ldrh Strh) (cond third Ldrsb Ldrsh)) ≡ load
+loads_by_tests true true third e = refl
+loads_by_tests false true third e = refl
+loads_by_tests true false true e = refl
+loads_by_tests true false false e = refl
+loads_by_tests false false third e = cc
+
+loads_is : (word : ℕ) → HalfBits word → half_loads (half_kind_by (is_load word) (half_sort word)) ≡ is_load word
+loads_is word h = loads_by_tests (is_load word) (eqb (half_sort word) 1) (eqb (half_sort word) 2) h.loads_or_half
+
+reads_as : (word : ℕ) (kind : Kind) → meets word (row_of kind) ≡ true → op_reads (op_by word kind) ≡ operands_read_by word kind
+reads_as word AluImmediate e = refl
+reads_as word AluShift e = refl
+reads_as word AluByRegister e = refl
+reads_as word Mul e = refl
+reads_as word MulLong e = refl
+reads_as word SingleImmediate e = refl
+reads_as word SingleRegister e = refl
+reads_as word HalfImmediate e =
+    ap (λ (b : Bool). transfer_reads b (rn word) 0 (register_bit (rd word))) (loads_is word (half_bits word HalfImmediate (inl refl) e))
+reads_as word HalfRegister e =
+    ap (λ (b : Bool). transfer_reads b (rn word) (register_bit (rm word)) (register_bit (rd word))) (loads_is word (half_bits word HalfRegister (inr refl) e))
+reads_as word Block e = refl
+reads_as word Branch e = refl
+reads_as word Exchange e = refl
+reads_as word Svc e = refl
+reads_as word MovPcLr e = refl
+
+-- what a transfer of one register writes
+moves : (word : ℕ) (load : Bool) → load ≡ is_load word → transfer_writes load (index_changes (index_by (is_before word) (writes_back word))) (rn word) (register_bit (rd word)) ≡ transfer_writes (is_load word) (changes_base (is_before word) (writes_back word)) (rn word) (register_bit (rd word))
+moves word load e =
+    ap (λ (b : Bool). transfer_writes b (index_changes (index_by (is_before word) (writes_back word))) (rn word) (register_bit (rd word))) e
+    ∙ ap (λ (b : Bool). transfer_writes (is_load word) b (rn word) (register_bit (rd word))) (changes_is (is_before word) (writes_back word))
+
+writes_as : (word : ℕ) (kind : Kind) → meets word (row_of kind) ≡ true → op_writes (op_by word kind) ≡ writes_by word kind
+writes_as word AluImmediate e = refl
+writes_as word AluShift e = refl
+writes_as word AluByRegister e = refl
+writes_as word Mul e = refl
+writes_as word MulLong e = refl
+writes_as word SingleImmediate e = moves word (is_load word) refl
+writes_as word SingleRegister e = moves word (is_load word) refl
+writes_as word HalfImmediate e = moves word _ (loads_is word (half_bits word HalfImmediate (inl refl) e))
+writes_as word HalfRegister e = moves word _ (loads_is word (half_bits word HalfRegister (inr refl) e))
+writes_as word Block e = refl
+writes_as word Branch e = refl
+writes_as word Exchange e = refl
+writes_as word Svc e = refl
+writes_as word MovPcLr e = refl
+
+unit_as : (word : ℕ) (kind : Kind) → op_unit (op_by word kind) ≡ unit_by word kind
+unit_as word AluImmediate = refl
+unit_as word AluShift = refl
+unit_as word AluByRegister = refl
+unit_as word Mul = refl
+unit_as word MulLong = refl
+unit_as word SingleImmediate = refl
+unit_as word SingleRegister = refl
+unit_as word HalfImmediate = refl
+unit_as word HalfRegister = refl
+unit_as word Block = refl
+unit_as word Branch = refl
+unit_as word Exchange = refl
+unit_as word Svc = refl
+unit_as word MovPcLr = refl
+
+transfers_as : (word : ℕ) (kind : Kind) → op_transfers (op_by word kind) ≡ transfers_by word kind
+transfers_as word AluImmediate = refl
+transfers_as word AluShift = refl
+transfers_as word AluByRegister = refl
+transfers_as word Mul = refl
+transfers_as word MulLong = refl
+transfers_as word SingleImmediate = refl
+transfers_as word SingleRegister = refl
+transfers_as word HalfImmediate = refl
+transfers_as word HalfRegister = refl
+transfers_as word Block = refl
+transfers_as word Branch = refl
+transfers_as word Exchange = refl
+transfers_as word Svc = refl
+transfers_as word MovPcLr = refl
+
+pub reads_are : (insn : Insn) → IsValid insn → insn_reads insn ≡ reads_of (word_of insn)
+unfolding reads_of
+reads_are insn v =
+    let r = row_of_valid insn v in
+    let word = word_of insn in
+    ap insn_reads (sym r.insn_is)
+    ∙ ap (bit_or (where_so (not (eqb (condition word) always)) flags_bit)) (reads_as word r.kind r.met)
+    ∙ sym (ap (λ (k : Option Kind). option_map_or (reads_by word) k 0) r.kind_is)
+
+pub writes_are : (insn : Insn) → IsValid insn → op_writes insn.op ≡ writes_of (word_of insn)
+unfolding writes_of
+writes_are insn v =
+    let r = row_of_valid insn v in
+    let word = word_of insn in
+    ap (λ (i : Insn). op_writes i.op) (sym r.insn_is)
+    ∙ writes_as word r.kind r.met
+    ∙ sym (ap (λ (k : Option Kind). option_map_or (writes_by word) k 0) r.kind_is)
+
+pub unit_is : (insn : Insn) → IsValid insn → op_unit insn.op ≡ unit_of (word_of insn)
+unfolding unit_of
+unit_is insn v =
+    let r = row_of_valid insn v in
+    let word = word_of insn in
+    ap (λ (i : Insn). op_unit i.op) (sym r.insn_is)
+    ∙ unit_as word r.kind
+    ∙ sym (ap (λ (k : Option Kind). option_map_or (unit_by word) k UnitKind.Alu) r.kind_is)
+
+pub transfers_are : (insn : Insn) → IsValid insn → op_transfers insn.op ≡ transfers_of (word_of insn)
+unfolding transfers_of
+transfers_are insn v =
+    let r = row_of_valid insn v in
+    let word = word_of insn in
+    ap (λ (i : Insn). op_transfers i.op) (sym r.insn_is)
+    ∙ transfers_as word r.kind
+    ∙ sym (ap (λ (k : Option Kind). option_map_or (transfers_by word) k 1) r.kind_is)
+
+-- a block transfers at least one register, and at most sixteen
+pub record InRange (n : ℕ) : Type 0 where
+  pub some : 1 ≤ n
+  pub few : n ≤ 16
+
+listed : (load back : Bool) (base list : ℕ) → is_block_setting load back base list ≡ true → (list ≡ 0) → ⊥
+listed load back base list e =
+    let p = and_parts ((not (eqb list 0) && is_not_pc base) && not (back && is_in list base)) (load || not (is_in list 15)) e in
+    let q = and_parts (not (eqb list 0) && is_not_pc base) (not (back && is_in list base)) p.0 in
+    let r = and_parts (not (eqb list 0)) (is_not_pc base) q.0 in
+    eqb-false list 0 (not-true _ r.0)
+
+count_in_range : (list : ℕ) → list < 2 ^ 16 → ((list ≡ 0) → ⊥) → InRange (count_ones list)
+count_in_range list small n = record {
+  some = one_or_more (count_ones list) (λ z. n (zero_from_ones list z));
+  few = ones-le 16 list small;
 }
+  where
+    one_or_more : (k : ℕ) → ((k ≡ 0) → ⊥) → 1 ≤ k
+    one_or_more k h = omega arith
 
-svc_columns_of : (word : ℕ) → kind_of word ≡ Some Svc → HasColumns word 0 0 1
-unfolding reads_of writes_of unit_of transfers_of
-svc_columns_of word k = record { reads_are = rw k refl; writes_are = rw k refl; unit_is = rw k refl; transfers_are = rw k refl }
+range_of : (word : ℕ) (kind : Kind) → meets word (row_of kind) ≡ true → InRange (op_transfers (op_by word kind))
+range_of word Block e =
+    count_in_range (block_list word) (omega arith) (listed (is_load word) (writes_back word) (rn word) (block_list word) (also_of word Block e))
+range_of word AluImmediate e = record { some = omega arith; few = omega arith }
+range_of word AluShift e = record { some = omega arith; few = omega arith }
+range_of word AluByRegister e = record { some = omega arith; few = omega arith }
+range_of word Mul e = record { some = omega arith; few = omega arith }
+range_of word MulLong e = record { some = omega arith; few = omega arith }
+range_of word SingleImmediate e = record { some = omega arith; few = omega arith }
+range_of word SingleRegister e = record { some = omega arith; few = omega arith }
+range_of word HalfImmediate e = record { some = omega arith; few = omega arith }
+range_of word HalfRegister e = record { some = omega arith; few = omega arith }
+range_of word Branch e = record { some = omega arith; few = omega arith }
+range_of word Exchange e = record { some = omega arith; few = omega arith }
+range_of word Svc e = record { some = omega arith; few = omega arith }
+range_of word MovPcLr e = record { some = omega arith; few = omega arith }
 
--- what data processing reads and writes
-pub record AluColumns (i : Insn) (code first to : ℕ) : Type 0 where
-  pub columns : HasColumns (word_of i) (cond (eqb code 13) 0 (register_bit first)) (register_bit to) 1
-  pub first_small : first < 15
-  pub to_small : to < 15
-  pub first_bit : 1 * 2 ^ first % 2 ^ 16 ≡ register_bit first
-  pub to_bit : 1 * 2 ^ to % 2 ^ 16 ≡ register_bit to
-
-plain_alu_columns : (c code : ℕ) (s : Bool) (first to : ℕ) (second : Operand) → IsValid (alu c code s first to second) → AluColumns (alu c code s first to second) code first to
-plain_alu_columns c code s first to second v =
-    let r = alu_read c code s first to second v in
-    let fields = valid_alu c code s first to second v in
-    let p = proper_alu c code s first to fields.proper in
-    let first_is = p.first_is in
-    let to_is = p.to_is in
-    let first_fits = fields.first_fits in
-    let to_fits = fields.to_fits in
-    record {
-      columns = alu_columns_of _ code first to r.kind_is r.code_is r.first_is r.to_is;
-      first_small = omega arith;
-      to_small = omega arith;
-      first_bit = one_shl first 16 (omega arith) ∙ sym (cond-false (eqb first 15) 0 (2 ^ first) (ne_eqb first 15 p.first_is));
-      to_bit = one_shl to 16 (omega arith) ∙ sym (cond-false (eqb to 15) 0 (2 ^ to) (ne_eqb to 15 p.to_is));
-    }
-
-pub alu_columns : (i : Insn) (code : ℕ) (s : Bool) (first to : ℕ) (second : Operand) → IsValid i → i.op ≡ op.Alu code s first to second → AluColumns i code first to
-alu_columns i code s first to second v e =
-    let same = same_insn i _ e in
-    let P : Insn → Type 0 = λ x. IsValid x → AluColumns x code first to in
-    subst P (sym same) (plain_alu_columns i.cond code s first to second) v
-
-pub svc_columns : (i : Insn) (number : ℕ) → IsValid i → i.op ≡ op.Svc number → HasColumns (word_of i) 0 0 1
-svc_columns i number v e =
-    let P : Insn → Type 0 = λ x. IsValid x → HasColumns (word_of x) 0 0 1 in
-    subst P (sym (same_insn i _ e)) (λ w. svc_columns_of _ (svc_read i.cond number w).kind_is) v
+pub transfers_in_range : (insn : Insn) → IsValid insn → InRange (op_transfers insn.op)
+transfers_in_range insn v =
+    let r = row_of_valid insn v in
+    subst (λ (i : Insn). InRange (op_transfers i.op)) r.insn_is (range_of (word_of insn) r.kind r.met)

@@ -1,2 +1,3 @@
 pub mod Encoding
-pub mod Ranges
+pub mod Columns
+pub mod Flows

@@ -3,9 +3,21 @@
 
 mod bits;
 mod columns;
+mod decoder;
+mod encoder;
+mod fields;
+mod flows;
 mod insn;
+mod reading;
+mod rows;
+mod settings;
+#[cfg(test)]
+mod tests;
 
 pub use bits::field;
 pub use columns::{reads, transfers, unit, writes};
-pub use insn::{Insn, Op, Operand, decode, encode, is_valid, rows_are_apart};
-pub use wx_base::UnitKind;
+pub use decoder::{decode, rows_are_apart};
+pub use encoder::{encode, is_valid};
+pub use flows::flow;
+pub use insn::{HalfKind, HalfOffset, Index, Insn, Offset, Op, Operand};
+pub use wx_base::{FlowKind, UnitKind};

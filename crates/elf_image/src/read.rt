@@ -25,7 +25,7 @@ const MOST_BYTES: usize = 16_777_216;
 /// Linear in the bytes, the headers and the symbols with their names, with three exceptions that no
 /// compiler's output meets. The headers are sorted by their addresses. Where load headers overlap,
 /// each up to the first that does is compared with each later one. The string table of each symbol
-/// table is looked through, also where many symbol tables share one.
+/// table is looked through from its end to its last zero, also where many symbol tables share one.
 pub fn read_image(alloc: Global, bytes: &[u8]) -> Result<Image, ElfError>
     // What was read has no fault, and is what the file stands for.
     ensures accepted { OnOk result (Passes 11 bytes.now) }

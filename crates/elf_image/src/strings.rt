@@ -7,20 +7,21 @@ ghost use Rattle.elf_image.specs.Meaning.{string_at};
 use std::alloc::{AllocError, Global};
 use wx_base::Text;
 
-// The place of the last zero of a string table.
+// The place of the last zero of a string table, sought from its end, where it mostly is.
 pub(crate) fn last_zero(table: &[u8]) -> Option<usize>
     ensures { MatchOption result
         ((k : ℕ) → k < length table.now → slice_index table.now k ≢ 0)
         (λ z. (z < length table.now) × (slice_index table.now z ≡ 0)
         × ((k : ℕ) → z < k → k < length table.now → slice_index table.now k ≢ 0)) }
 {
-    let mut found = None;
-    for (k, byte) in table.iter().enumerate() {
-        if *byte == 0 {
-            found = Some(k);
+    let mut k = table.len();
+    while k > 0 {
+        k -= 1;
+        if table[k] == 0 {
+            return Some(k);
         }
     }
-    found
+    None
 }
 
 // The string that begins at a place of a string table, up to the first zero, or to the end.

@@ -9,7 +9,8 @@ use Rattle.wx_base.specs.declared.machine.UnitKind.TheVariants.{Alu, Mul, Mem}
 use Rattle.wx_base.specs.declared.times.Times.{Times}
 use Rattle.wx_base.specs.Bits.{is_in}
 use Rattle.wx_base.specs.Machine.{IsMachine, IsTiming, timing_of}
-use Rattle.wx_base.specs.Instruction.{Kind, AluImmediate, kind_of, transfers_by, unit_of, transfers_of, reads_of, writes_of}
+use Rattle.std.proofs.lemmas.Nat.{ones-le}
+use Rattle.wx_base.specs.Instruction.{Kind, Block, block_list, kind_of, transfers_by, unit_of, transfers_of, reads_of, writes_of}
 use Rattle.wx_base.specs.Recurrence.{Entry, Done, slot, ago, kept, when, next, window, latest, fe_back, d_back, x_back, c_back, unit_free, latency_of, occupancy_of, same_unit, written}
 use Rattle.wx_base.specs.Vector.{AreWithin}
 use Rattle.pipe_time.specs.Growth.{TimesWithin, TimesGrowLittle, SlotsGrowLittle}
@@ -17,7 +18,7 @@ use Rattle.pipe_time.proofs.Cases.{◌▸◌, width_cases, queue_cases}
 use Rattle.pipe_time.proofs.Readings.{Readings, readings, timed, next_timed}
 
 few_by : (word : ℕ) (kind : Kind) → transfers_by word kind ≤ 16
-few_by word AluImmediate = omega arith
+few_by word Block = ones-le 16 (block_list word) (omega arith)
 few_by word _ = omega arith
 
 -- no instruction transfers more than sixteen registers

@@ -30,7 +30,7 @@ same_word v w a b p q e =
 -- where a reading of plain words stops
 data Stop (rest : List ℕ) : Type 0 where
   Short : length rest < 4 → Stop rest
-  Word : (word : ℕ) (after : List ℕ) → rest ≡ bytes_of_word word ++ after → word < 2 ^ 32 → (kind_of word ≡ Some AluImmediate → ⊥) → Stop rest
+  Word : (word : ℕ) (after : List ℕ) → rest ≡ bytes_of_word word ++ after → word < 2 ^ 32 → (IsPlain word → ⊥) → Stop rest
 
 record SameReading (xs ys rest rest' : List ℕ) : Type 0 where
   words : xs ≡ ys
@@ -39,8 +39,7 @@ record SameReading (xs ys rest rest' : List ℕ) : Type 0 where
 not_stopped : (rest : List ℕ) (word : ℕ) (after : List ℕ) → Stop rest → rest ≡ bytes_of_word word ++ after → IsPlain word → ⊥
 not_stopped rest word after (Short p) e q = omega (arith, ap length e, length-append (bytes_of_word word) after)
 not_stopped rest word after (Word w more e' small other) e q =
-    let same = same_word word w after more q.fits small (sym e ∙ e') in
-    other (subst (λ n. kind_of n ≡ Some AluImmediate) same.word q.kind)
+    let same = same_word word w after more q.fits small (sym e ∙ e') in other (subst IsPlain same.word q)
 
 -- two readings that go as far as they can are one
 same_reading : (xs ys rest rest' : List ℕ) → AllByRecursion IsPlain xs → AllByRecursion IsPlain ys → Stop rest → Stop rest' → bytes_of xs ++ rest ≡ bytes_of ys ++ rest' → SameReading xs ys rest rest'
@@ -75,8 +74,8 @@ record Reading (bytes body rest : List ℕ) : Type 0 where
 same_readings : (bytes xs ys rest rest' : List ℕ) → Reading bytes xs rest → Reading bytes ys rest' → SameReading xs ys rest rest'
 same_readings bytes xs ys rest rest' r t = same_reading xs ys rest rest' r.plain t.plain r.stop t.stop (sym r.spelled ∙ t.spelled)
 
-last_is_not_plain : (word : ℕ) → IsLast word → kind_of word ≡ Some AluImmediate → ⊥
-last_is_not_plain word l e = let k = l.kind in cc
+last_is_not_plain : (word : ℕ) → IsLast word → IsPlain word → ⊥
+last_is_not_plain word l p = let last = l.kind in let plain = p.kind in cc
 
 program_reading : (bytes program : List ℕ) (p : IsProgram bytes program) → Reading bytes p.body (bytes_of_word p.last ++ p.rest)
 program_reading bytes program p = record {
@@ -113,7 +112,7 @@ one_bound_reply bytes (reply.Bound m) (reply.LeavesCode a) (p, x, e) c =
 one_bound_reply bytes (reply.Bound m) (reply.Unsupported a w) (p, x, e) f =
     let same = same_readings bytes _ _ _ _ (program_reading bytes p x) (foreign_reading bytes a w f) in
     let word = same_word x.last w x.rest f.rest x.ends.fits f.fits same.left in
-    absurd (f.not_last (subst (λ n. kind_of n ≡ Some Svc) word.word x.ends.kind))
+    absurd (f.not_last (subst IsLast word.word x.ends))
 one_bound_reply bytes (reply.LeavesCode a) (reply.Bound m) c (p, x, e) =
     absurd (too_short x.last x.rest c.rest (same_readings bytes _ _ _ _ (program_reading bytes p x) (cut_reading bytes a c)).left c.short)
 one_bound_reply bytes (reply.LeavesCode a) (reply.LeavesCode b) c d =
@@ -124,7 +123,7 @@ one_bound_reply bytes (reply.LeavesCode a) (reply.Unsupported b w) c f =
 one_bound_reply bytes (reply.Unsupported a w) (reply.Bound m) f (p, x, e) =
     let same = same_readings bytes _ _ _ _ (program_reading bytes p x) (foreign_reading bytes a w f) in
     let word = same_word x.last w x.rest f.rest x.ends.fits f.fits same.left in
-    absurd (f.not_last (subst (λ n. kind_of n ≡ Some Svc) word.word x.ends.kind))
+    absurd (f.not_last (subst IsLast word.word x.ends))
 one_bound_reply bytes (reply.Unsupported a w) (reply.LeavesCode b) f c =
     absurd (too_short w f.rest c.rest (same_readings bytes _ _ _ _ (foreign_reading bytes a w f) (cut_reading bytes b c)).left c.short)
 one_bound_reply bytes (reply.Unsupported a v) (reply.Unsupported b w) f g =

@@ -2,13 +2,14 @@
 -- missed.
 use Rattle.std.proofs.Common.{◌≡◌, ℕ, zero, suc, ◌+◌, ◌*◌, ◌^◌, ◌<◌, ◌≤◌, ◌⊎◌, Bool, true, false, cond, List, [], ◌∷◌, ◌++◌, length, map, reverse, Option, Some, None, Ok, refl, sym, ap, ◌∙◌, subst, arith, inl, inr, length-append, append_assoc, le_trans}
 use Rattle.std.proofs.lemmas.List.{reverse-append, map-append}
+use Rattle.std.proofs.lemmas.Bool.{cond-true}
 use Rattle.std.specs.List.{AllByRecursion}
 use Rattle.wx_base.specs.declared.machine.Machine.{Machine}
 use Rattle.wx_base.specs.Machine.{IsMachine}
 use Rattle.wx_base.specs.Instruction.{Kind, AluImmediate, Svc, kind_of}
 use Rattle.wx_base.specs.declared.image.Image.{Image}
 use Rattle.wx_base.specs.Image.{is_code_word}
-use Rattle.wx_base.specs.State.{State, pc, current_word, step, executed, Outcome, Stopped, Fetch}
+use Rattle.wx_base.specs.State.{State, pc, current_word, step, executed, alu_registers, Outcome, Next, Ended, Stopped, Fetch, Word}
 use Rattle.wx_base.specs.Monitor.{Frame, judged_by}
 use Rattle.wx_base.specs.Recurrence.{Entry, Done, next, past_of, completion}
 use Rattle.wx_base.specs.Vector.{Covers, IsWorse}
@@ -104,9 +105,7 @@ executed_more m done word past e x w s t = record {
     is_worse = record { word = sym w; taken = sym t; miss = λ h. refl; slow = λ h. cc }
 
 judged_fine : (frames : List Frame) (from : Entry) (to : ℕ) (kind : Option Kind) → judged_by frames from to kind ≡ Ok frames
-judged_fine frames from to None = refl
-judged_fine frames from to (Some AluImmediate) = refl
-judged_fine frames from to (Some Svc) = refl
+judged_fine frames from to kind = refl
 
 frames_fine : (past : List Done) (frames : List Frame) (to : ℕ) → frames_before past frames to ≡ Ok frames
 frames_fine [] frames to = refl
@@ -123,7 +122,22 @@ advance_is m image run outcome e s =
     ap (advanced m image run) e ∙ ap (after_judgement m image run) (frames_fine run.past run.frames (run.state.registers pc))
     ∙ ap (after_outcome m run run.frames) s
 
-goes_on_by : (m : Machine) (program : List ℕ) (memory : ℕ → ℕ) (run : Run) (g : Going m program memory run) (word' : ℕ) (left' : List ℕ) → 4 * length program ≤ 16777216 → g.left ≡ word' ∷ left' → current_word run.state ≡ g.word → Going m program memory (after_outcome m run run.frames (executed m run.state g.word (Some AluImmediate)))
+-- what a plain word makes of the state
+abbrev plain_next : State → ℕ → Outcome
+plain_next state word =
+    Next (record {
+      state = record { registers = alu_registers state.registers word; flags = state.flags; memory = state.memory };
+      taken = false;
+      slow = false;
+    })
+
+plain_executes : (m : Machine) (state : State) (word : ℕ) → IsPlain word → executed m state word (Some AluImmediate) ≡ plain_next state word
+plain_executes m state word p = cond-true _ (plain_next state word) (Stopped Word) p.plain
+
+last_executes : (m : Machine) (state : State) (word : ℕ) → IsLast word → executed m state word (Some Svc) ≡ Ended
+last_executes m state word p = cond-true _ Ended (Stopped Word) p.sure
+
+goes_on_by : (m : Machine) (program : List ℕ) (memory : ℕ → ℕ) (run : Run) (g : Going m program memory run) (word' : ℕ) (left' : List ℕ) → 4 * length program ≤ 16777216 → g.left ≡ word' ∷ left' → current_word run.state ≡ g.word → Going m program memory (after_outcome m run run.frames (plain_next run.state g.word))
 goes_on_by m program memory run g word' left' small l w =
     let count : length program ≡ length g.done + length (g.word ∷ g.left) = ap length g.program_is ∙ length-append g.done (g.word ∷ g.left) in
     let longer : length (g.done ++ g.word ∷ []) ≡ length g.done + 1 = length-append g.done (g.word ∷ []) in
@@ -139,7 +153,7 @@ goes_on_by m program memory run g word' left' small l w =
       behind = executed_more m g.done g.word run.past (entry_at m run false false) g.behind w refl refl;
     }
 
-ends_by : (m : Machine) (program : List ℕ) (memory : ℕ → ℕ) (run : Run) (g : Going m program memory run) → g.left ≡ [] → current_word run.state ≡ g.word → Over m program (after_outcome m run run.frames (executed m run.state g.word (Some Svc)))
+ends_by : (m : Machine) (program : List ℕ) (memory : ℕ → ℕ) (run : Run) (g : Going m program memory run) → g.left ≡ [] → current_word run.state ≡ g.word → Over m program (after_outcome m run run.frames Ended)
 ends_by m program memory run g l w = record {
   end = End.Finished;
   ended = refl;
@@ -155,11 +169,11 @@ fits_of word left (Final l p) = p.fits
 going_on : (m : Machine) (program : List ℕ) (memory : ℕ → ℕ) (run : Run) (g : Going m program memory run) → 4 * length program ≤ 16777216 → current_word run.state ≡ g.word → is_code_word (image_of program) (run.state.registers pc) ≡ true → Role g.word g.left → Stands m program memory (advanced m (image_of program) run run.end)
 going_on m program memory run g small w code (Inner word' left' l p) =
     subst (Stands m program memory)
-    (sym (advance_is m (image_of program) run _ g.goes_on (step_is m (image_of program) run.state g.word AluImmediate code w p.kind)))
+    (sym (advance_is m (image_of program) run _ g.goes_on (step_is m (image_of program) run.state g.word AluImmediate code w p.kind ∙ plain_executes m run.state g.word p)))
     (inl (goes_on_by m program memory run g word' left' small l w))
 going_on m program memory run g small w code (Final l p) =
     subst (Stands m program memory)
-    (sym (advance_is m (image_of program) run _ g.goes_on (step_is m (image_of program) run.state g.word Svc code w p.kind)))
+    (sym (advance_is m (image_of program) run _ g.goes_on (step_is m (image_of program) run.state g.word Svc code w p.kind ∙ last_executes m run.state g.word p)))
     (inr (ends_by m program memory run g l w))
 
 stands_on : (m : Machine) (program body : List ℕ) (last : ℕ) (memory : ℕ → ℕ) (run : Run) → program ≡ body ++ last ∷ [] → AllByRecursion IsPlain body → IsLast last → 4 * length program ≤ 16777216 → Loaded (image_of program) memory → Stands m program memory run → Stands m program memory (advanced m (image_of program) run run.end)

@@ -1,5 +1,5 @@
 -- What is known while the words are read one after the other.
-use Rattle.std.proofs.Common.{◌≡◌, ℕ, ◌+◌, ◌*◌, ◌<◌, ◌≤◌, List, [], ◌∷◌, ◌++◌, length, map, reverse, None, refl, sym, ap, ◌∙◌, ◌^◌, subst, ⊎_elim, arith, append_assoc, length-append}
+use Rattle.std.proofs.Common.{◌≡◌, ℕ, ◌+◌, ◌*◌, ◌<◌, ◌≤◌, List, [], ◌∷◌, ◌++◌, length, map, reverse, refl, sym, ap, ◌∙◌, ◌^◌, subst, ⊎_elim, arith, append_assoc, length-append}
 use Rattle.std.proofs.lemmas.List.{reverse-append, map_push, get_or-replicate, get_or_past}
 use Rattle.std.proofs.lemmas.Bool.{cases_lt}
 use Rattle.std.proofs.lemmas.Grind.{flat_map-append}
@@ -9,7 +9,6 @@ use Rattle.wx_base.specs.declared.machine.Machine.{Machine}
 use Rattle.wx_base.specs.declared.times.Times.{Times}
 use Rattle.wx_base.specs.Bits.{bytes_of_word}
 use Rattle.wx_base.specs.Machine.{IsMachine}
-use Rattle.wx_base.specs.Instruction.{kind_of}
 use Rattle.wx_base.specs.Recurrence.{Entry, Done, next, window, past_of, completion}
 use Rattle.wx_base.specs.Vector.{AreWithin, zero_slots}
 use Rattle.pipe_time.specs.Windows.{WindowGivesTimes, WindowGivesWindow, NothingIsZero}
@@ -124,15 +123,15 @@ pub cut_off : (m : Machine) (bytes rest : List ℕ) (addr : ℕ) (slots : List �
 cut_off m bytes rest addr slots s short = record { body = s.body; rest = rest; spelled = s.spelled; plain = s.plain; short = short; at = s.at }
 
 -- a word that is no instruction of a straight program
-pub foreign : (m : Machine) (bytes rest behind : List ℕ) (addr word : ℕ) (slots : List ℕ) → SoFar m bytes rest addr slots → rest ≡ bytes_of_word word ++ behind → word < 2 ^ 32 → kind_of word ≡ None → IsForeign bytes addr word
-foreign m bytes rest behind addr word slots s r small none = record {
+pub foreign : (m : Machine) (bytes rest behind : List ℕ) (addr word : ℕ) (slots : List ℕ) → SoFar m bytes rest addr slots → rest ≡ bytes_of_word word ++ behind → word < 2 ^ 32 → (IsPlain word → ⊥) → (IsLast word → ⊥) → IsForeign bytes addr word
+foreign m bytes rest behind addr word slots s r small plain last = record {
   body = s.body;
   rest = behind;
   spelled = s.spelled ∙ ap (λ x. bytes_of s.body ++ x) r ∙ sym (append_assoc (bytes_of s.body) (bytes_of_word word) behind);
   plain = s.plain;
   fits = small;
-  not_plain = λ e. cc;
-  not_last = λ e. cc;
+  not_plain = plain;
+  not_last = last;
   at = s.at;
 }
 

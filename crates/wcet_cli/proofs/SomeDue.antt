@@ -1,21 +1,21 @@
 -- Some reply is due, whatever a store holds.
 use Rattle.std.proofs.Common.{◌≡◌, ℕ, ◌+◌, ◌*◌, ◌/◌, ◌%◌, ◌^◌, ◌<◌, ◌≤◌, ◌⊎◌, inl, inr, Bool, true, false, List, [], ◌∷◌, ◌++◌, length, take, drop, get_or, Option, Some, None, refl, sym, ap, ◌∙◌, subst, ⊎_elim, arith, append_assoc, length-append, length-drop}
-use Rattle.std.specs.Prelude.{codes}
+use Rattle.std.specs.Prelude.{◌==◌, codes}
 use Rattle.std.specs.List.{AllByRecursion}
 use Rattle.std.specs.Int.{from_le_bytes, w32}
 use Rattle.std.proofs.lemmas.List.{take-append-drop, length-take-le}
 use Rattle.std.proofs.lemmas.List.Concat.{flat_map-cons}
 use Rattle.std.proofs.lemmas.Nat.{le_bytes_4}
-use Rattle.std.proofs.lemmas.Bool.{cases_lt, cases_Bool}
+use Rattle.std.proofs.lemmas.Bool.{both_ways, cases_lt, cases_Bool}
 use Rattle.std.proofs.lemmas.Slice.Eq.{bytes_eq-Decides}
 use Rattle.std.specs.Str.{bytes_eq}
 use Rattle.wx_base.specs.Bits.{bytes_of_word}
 use Rattle.wx_base.specs.Machine.{m1}
-use Rattle.wx_base.specs.Instruction.{Kind, AluImmediate, Svc, kind_of}
+use Rattle.wx_base.specs.Instruction.{Kind, AluImmediate, Svc, AluShift, AluByRegister, Mul, MulLong, SingleImmediate, SingleRegister, HalfImmediate, HalfRegister, Block, Branch, Exchange, MovPcLr, kind_of, condition, opcode, sets_flags, rn, always}
 use Rattle.wx_base.specs.Outside.{Contents}
 use Rattle.wcet_cli.specs.declared.reply.Reply.{Reply}
 use Rattle.wcet_cli.specs.declared.reply.Reply.TheVariants as reply
-use Rattle.wcet_cli.specs.Straight.{origin, IsPlain, IsLast, bytes_of, address_behind, IsProgram, IsCutOff, IsForeign, bound_of}
+use Rattle.wcet_cli.specs.Straight.{is_plain_alu, origin, IsPlain, IsLast, bytes_of, address_behind, IsProgram, IsCutOff, IsForeign, bound_of}
 use Rattle.wcet_cli.specs.Flat.{IsBoundReply, IsNoFault}
 use Rattle.wcet_cli.specs.Call.{FitsForm, IsFlat, FlatCause, HasCause, NoForm, OfFlat, AreBytes}
 
@@ -68,27 +68,49 @@ four a b c d p q r s =
     parts : (word : ℕ) → a ≡ word % 256 → b ≡ word / 256 % 256 → c ≡ word / 65536 % 256 → d ≡ word / 16777216 % 256 → a ∷ b ∷ c ∷ d ∷ [] ≡ bytes_of_word word
     parts word e f g h = rw (e, f, g, h) refl
 
-by_kind : (word : ℕ) (bytes : List ℕ) (kind : Option Kind) → word < 2 ^ 32 → kind_of word ≡ kind → Course bytes → Course (bytes_of_word word ++ bytes)
-by_kind word bytes None small e later = Foreign origin word (record {
-  body = [];
-  rest = bytes;
-  spelled = refl;
-  plain = tt;
-  fits = small;
-  not_plain = λ h. cc;
-  not_last = λ h. cc;
-  at = refl;
-})
-by_kind word bytes (Some AluImmediate) small e later = before word bytes (record { fits = small; kind = e }) later
-by_kind word bytes (Some Svc) small e later = Program (word ∷ []) (record {
+foreign : (word : ℕ) (bytes : List ℕ) → word < 2 ^ 32 → (IsPlain word → ⊥) → (IsLast word → ⊥) → Course (bytes_of_word word ++ bytes)
+foreign word bytes small plain last =
+    Foreign origin word
+    (record { body = []; rest = bytes; spelled = refl; plain = tt; fits = small; not_plain = plain; not_last = last; at = refl })
+
+-- a word of a row that no straight program has
+other : (word : ℕ) (bytes : List ℕ) (kind : Option Kind) → word < 2 ^ 32 → kind_of word ≡ kind → (kind ≡ Some AluImmediate → ⊥) → (kind ≡ Some Svc → ⊥) → Course (bytes_of_word word ++ bytes)
+other word bytes kind small e plain last =
+    foreign word bytes small (λ p. plain (sym e ∙ p.kind)) (λ l. last (sym e ∙ l.kind))
+
+by_plain : (word : ℕ) (bytes : List ℕ) (b : Bool) → word < 2 ^ 32 → kind_of word ≡ Some AluImmediate → is_plain_alu (condition word) (opcode word) (sets_flags word) (rn word) ≡ b → Course bytes → Course (bytes_of_word word ++ bytes)
+by_plain word bytes true small e t later = before word bytes (record { fits = small; kind = e; plain = t }) later
+by_plain word bytes false small e t later =
+    foreign word bytes small (λ p. both_ways _ t p.plain) (λ l. let k = l.kind in cc)
+
+by_last : (word : ℕ) (bytes : List ℕ) (b : Bool) → word < 2 ^ 32 → kind_of word ≡ Some Svc → (condition word == always) ≡ b → Course (bytes_of_word word ++ bytes)
+by_last word bytes true small e t = Program (word ∷ []) (record {
   body = [];
   last = word;
   rest = bytes;
   words_are = refl;
   spelled = ap (λ x. x ++ bytes) (sym (flat_map-cons bytes_of_word word []));
   plain = tt;
-  ends = record { fits = small; kind = e };
+  ends = record { fits = small; kind = e; sure = t };
 })
+by_last word bytes false small e t = foreign word bytes small (λ p. let k = p.kind in cc) (λ l. both_ways _ t l.sure)
+
+by_kind : (word : ℕ) (bytes : List ℕ) (kind : Option Kind) → word < 2 ^ 32 → kind_of word ≡ kind → Course bytes → Course (bytes_of_word word ++ bytes)
+by_kind word bytes None small e later = other word bytes None small e (λ h. cc) (λ h. cc)
+by_kind word bytes (Some AluImmediate) small e later = by_plain word bytes _ small e refl later
+by_kind word bytes (Some Svc) small e later = by_last word bytes _ small e refl
+by_kind word bytes (Some AluShift) small e later = other word bytes (Some AluShift) small e (λ h. cc) (λ h. cc)
+by_kind word bytes (Some AluByRegister) small e later = other word bytes (Some AluByRegister) small e (λ h. cc) (λ h. cc)
+by_kind word bytes (Some Mul) small e later = other word bytes (Some Mul) small e (λ h. cc) (λ h. cc)
+by_kind word bytes (Some MulLong) small e later = other word bytes (Some MulLong) small e (λ h. cc) (λ h. cc)
+by_kind word bytes (Some SingleImmediate) small e later = other word bytes (Some SingleImmediate) small e (λ h. cc) (λ h. cc)
+by_kind word bytes (Some SingleRegister) small e later = other word bytes (Some SingleRegister) small e (λ h. cc) (λ h. cc)
+by_kind word bytes (Some HalfImmediate) small e later = other word bytes (Some HalfImmediate) small e (λ h. cc) (λ h. cc)
+by_kind word bytes (Some HalfRegister) small e later = other word bytes (Some HalfRegister) small e (λ h. cc) (λ h. cc)
+by_kind word bytes (Some Block) small e later = other word bytes (Some Block) small e (λ h. cc) (λ h. cc)
+by_kind word bytes (Some Branch) small e later = other word bytes (Some Branch) small e (λ h. cc) (λ h. cc)
+by_kind word bytes (Some Exchange) small e later = other word bytes (Some Exchange) small e (λ h. cc) (λ h. cc)
+by_kind word bytes (Some MovPcLr) small e later = other word bytes (Some MovPcLr) small e (λ h. cc) (λ h. cc)
 
 ends_short : (bytes : List ℕ) → length bytes < 4 → Course bytes
 ends_short bytes short = CutOff origin (record { body = []; rest = bytes; spelled = refl; plain = tt; short = short; at = refl })

@@ -1,9 +1,14 @@
 -- Straight programs: raw words that go from one to the next up to a call of the supervisor. This project's own.
-use Rattle.std.specs.Prelude.{◌≡◌, ◌≢◌, ℕ, ◌+◌, ◌*◌, ◌^◌, ◌<◌, ◌≤◌, true, false, List, [], ◌∷◌, ◌++◌, length, map, reverse, Some}
+use Rattle.std.specs.Prelude.{◌≡◌, ℕ, ◌+◌, ◌*◌, ◌^◌, ◌<◌, ◌≤◌, Bool, true, false, ◌==◌, ◌&&◌, ◌||◌, not, if◌then◌else◌, List, [], ◌∷◌, ◌++◌, length, map, reverse, Option, Some, None}
 use Rattle.std.specs.List.{flat_map, AllByRecursion}
 use Rattle.wx_base.specs.declared.machine.Machine.{Machine}
 use Rattle.wx_base.specs.Bits.{bytes_of_word}
-use Rattle.wx_base.specs.Instruction.{AluImmediate, Svc, kind_of}
+use Rattle.wx_base.specs.Instruction.{AluImmediate, Svc, kind_of, condition, opcode, sets_flags, rn, is_not_pc, always, sub, add, mov}
+use Rattle.arm_code.specs.declared.insn.Op.{Op}
+use Rattle.arm_code.specs.declared.insn.Op.TheVariants as op
+use Rattle.arm_code.specs.declared.insn.Operand.TheVariants as operand
+use Rattle.wcet_cli.specs.declared.straight.Role.{Role}
+use Rattle.wcet_cli.specs.declared.straight.Role.TheVariants.{Plain, Last}
 use Rattle.wx_base.specs.Recurrence.{Entry, past_of, completion}
 use Rattle.wx_base.specs.declared.image.Image.{Image}
 use Rattle.wx_base.specs.Image.{code_image}
@@ -13,15 +18,38 @@ use Rattle.wx_base.specs.Run.{Start, IsStart, Obeys, run_of, time_of}
 abbrev pub origin : ℕ
 origin = 0x8000
 
--- the word is one that a straight program may have before its end
+-- What data processing may be in a straight program: always executed; a subtraction, an addition or a move; the flags
+-- stay; and the first operand is not pc.
+abbrev pub is_plain_alu : ℕ → ℕ → Bool → ℕ → Bool
+is_plain_alu cond code s first =
+    (cond == always) && ((code == sub) || (code == add) || (code == mov)) && not s && is_not_pc first
+
+-- the word is one that a straight program may have before its end: such data processing with an immediate operand
 pub record IsPlain (word : ℕ) : Type 0 where
   pub fits : word < 2 ^ 32
   pub kind : kind_of word ≡ Some AluImmediate
+  pub plain : is_plain_alu (condition word) (opcode word) (sets_flags word) (rn word) ≡ true
 
--- the word ends a straight program
+-- the word ends a straight program: a call of the supervisor that is always executed
 pub record IsLast (word : ℕ) : Type 0 where
   pub fits : word < 2 ^ 32
   pub kind : kind_of word ≡ Some Svc
+  pub sure : (condition word == always) ≡ true
+
+-- what an operation under a condition is in a straight program, if it may stand in one
+abbrev pub op_role : ℕ → Op → Option Role
+op_role cond (op.Alu code s first to (operand.Imm value rot)) = if is_plain_alu cond code s first then Some Plain else None
+op_role cond (op.Alu code s first to (operand.Shift register kind amount)) = None
+op_role cond (op.Alu code s first to (operand.ByReg register kind amount)) = None
+op_role cond (op.Svc number) = if cond == always then Some Last else None
+op_role cond (op.Mul accumulate s result added a b) = None
+op_role cond (op.MulLong signed accumulate s hi lo a b) = None
+op_role cond (op.Single load byte to base index up by) = None
+op_role cond (op.Half kind to base index up by) = None
+op_role cond (op.Block load before up wback base list) = None
+op_role cond (op.Branch link by) = None
+op_role cond (op.Exchange link register) = None
+op_role cond op.MovPcLr = None
 
 abbrev pub bytes_of : List ℕ → List ℕ
 bytes_of words = flat_map bytes_of_word words
@@ -56,8 +84,8 @@ pub record IsForeign (bytes : List ℕ) (address word : ℕ) : Type 0 where
   pub spelled : bytes ≡ bytes_of body ++ bytes_of_word word ++ rest
   pub plain : AllByRecursion IsPlain body
   pub fits : word < 2 ^ 32
-  pub not_plain : kind_of word ≢ Some AluImmediate
-  pub not_last : kind_of word ≢ Some Svc
+  pub not_plain : IsPlain word → ⊥
+  pub not_last : IsLast word → ⊥
   pub at : address ≡ address_behind body
 
 -- a word as an instruction whose fetch misses

@@ -1,10 +1,10 @@
 ghost use Rattle.std.specs.Prelude.{◌≡◌, ℕ, ◌≤◌, ◌<◌, ◌^◌, ◌++◌, List, length, IfOk, IfErr, MatchOption};
 ghost use Rattle.wx_base.specs.Bits.{bytes_of_word};
 ghost use Rattle.wx_base.specs.Machine.{m1, IsMachine};
-ghost use Rattle.wcet_cli.specs.Straight.{IsProgram, EachRunTakesAtMost, origin, image_of, bound_of};
+ghost use Rattle.wcet_cli.specs.Straight.{IsProgram, EachRunTakesAtMost, origin, image_of, bound_of, is_plain_alu, op_role};
 ghost use Rattle.wcet_cli.specs.Refusal.{HasFault};
 
-use arm_code::{Op, decode};
+use arm_code::{Insn, Op, Operand, decode};
 use pipe_time::{Entry, Vector, advance, windows_follow_the_past, worse_is_no_faster};
 use wx_base::Machine;
 
@@ -18,6 +18,64 @@ pub enum Refusal {
     LeavesCode { addr: u32 },
     /// This word is neither a plain one nor a call of the supervisor.
     Unsupported { addr: u32, word: u32 },
+}
+
+/// What an instruction is in a straight program.
+#[derive(Clone, Copy, Debug, PartialEq, Eq)]
+enum Role {
+    /// It goes on to the next.
+    Plain,
+    /// It ends the program.
+    Last,
+}
+
+/// The code of the condition "always".
+const ALWAYS: u8 = 14;
+
+/// The opcodes that a straight program may have.
+const SUB: u8 = 2;
+
+const ADD: u8 = 4;
+
+const MOV: u8 = 13;
+
+/// The number of the register that holds the address.
+const PC: u8 = 15;
+
+/// Whether data processing may stand in a straight program.
+fn is_plain_alu(cond: u8, op: u8, s: bool, rn: u8) -> bool
+    ensures { result ≡ is_plain_alu cond op s rn }
+{
+    cond == ALWAYS && (op == SUB || op == ADD || op == MOV) && !s && rn != PC
+}
+
+/// What an instruction is in a straight program: one of a short list, or None.
+fn role_of(insn: &Insn) -> Option<Role>
+    ensures { result ≡ op_role insn.now.cond insn.now.op }
+{
+    match insn.op {
+        Op::Alu {
+            op,
+            s,
+            rn,
+            operand: Operand::Imm { .. },
+            ..
+        } => {
+            if is_plain_alu(insn.cond, op, s, rn) {
+                Some(Role::Plain)
+            } else {
+                None
+            }
+        }
+        Op::Svc { .. } => {
+            if insn.cond == ALWAYS {
+                Some(Role::Last)
+            } else {
+                None
+            }
+        }
+        _ => None,
+    }
 }
 
 /// The cycles that a straight program takes if each fetch misses: the bytes are little-endian words from 0x8000 on, up
@@ -39,6 +97,9 @@ pub fn bound_of_bytes(machine: &Machine, bytes: &[u8]) -> Result<u64, Refusal>
         let Some(insn) = decode(word) else {
             return Err(Refusal::Unsupported { addr, word });
         };
+        let Some(role) = role_of(&insn) else {
+            return Err(Refusal::Unsupported { addr, word });
+        };
         let entry = Entry {
             insn,
             miss: true,
@@ -46,7 +107,7 @@ pub fn bound_of_bytes(machine: &Machine, bytes: &[u8]) -> Result<u64, Refusal>
             taken: false,
         };
         let times = advance(&mut pipeline, &entry, machine);
-        if let Op::Svc { .. } = insn.op {
+        if let Role::Last = role {
             return Ok(times.c);
         }
         addr += 4;

@@ -43,7 +43,8 @@ IsCodeAt image address = Any (λ segment. IsTrue segment.code × IsTrue (spans a
 abbrev pub has_code : Image → ℕ → Bool
 has_code image address = list_any (λ segment. segment.code && spans address segment) image.segments
 
--- whether a word of code stands at the address: a multiple of 4 whose four bytes lie in executable segments
+-- whether a word of code stands at the address: a multiple of 4 whose four bytes lie in executable segments; the four
+-- addresses of a multiple of 4 never pass the end of memory
 abbrev pub is_code_word : Image → ℕ → Bool
 is_code_word image address =
     (address % 4 == 0) && has_code image address && has_code image (address + 1)

@@ -10,6 +10,7 @@ pub mod Symbols
 pub mod Bits
 pub mod Machine
 pub mod Instruction
+pub mod Flow
 pub mod Image
 pub mod State
 pub mod Cache

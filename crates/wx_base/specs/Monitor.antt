@@ -2,7 +2,7 @@
 -- instructions is judged. This project's own.
 use Rattle.std.specs.Prelude.{ℕ, List, [], ◌∷◌, Option, Some, None, Result, Ok}
 use Rattle.wx_base.specs.Recurrence.{Entry}
-use Rattle.wx_base.specs.Instruction.{Kind, AluImmediate, Svc, kind_of}
+use Rattle.wx_base.specs.Instruction.{Kind, kind_of}
 
 -- An activation of a function: its entry, the address last executed in it if there is one, and how often the back edges
 -- into each loop head were taken since its loop was entered.
@@ -31,12 +31,10 @@ abbrev pub passed : List Frame → ℕ → List Frame
 passed [] address = []
 passed (frame ∷ frames) address = record frame { last = Some address } ∷ frames
 
--- What a move from an instruction to an address makes of the frames, or the rule that it breaks. The rows that the table
--- has so far neither jump nor call nor return, and there are no facts: a move of theirs breaks no rule.
+-- What a move from an instruction to an address makes of the frames, or the rule that it breaks. NOT YET WHOLE: the
+-- machine executes no instruction yet that jumps, calls or returns, and there are no facts, so no move breaks a rule.
 abbrev pub judged_by : List Frame → Entry → ℕ → Option Kind → Result (List Frame) Breach
-judged_by frames from to (Some AluImmediate) = Ok frames
-judged_by frames from to (Some Svc) = Ok frames
-judged_by frames from to None = Ok frames
+judged_by frames from to kind = Ok frames
 
 abbrev pub judged : List Frame → Entry → ℕ → Result (List Frame) Breach
 judged frames from to = judged_by frames from to (kind_of from.word)

@@ -1,9 +1,9 @@
 -- What an instruction does to registers, flags and memory. ARM Architecture Reference Manual; where the machine stops
 -- is this project's own.
-use Rattle.std.specs.Prelude.{ℕ, ◌*◌, Bool, false, ◌==◌, if◌then◌else◌, Option, Some, None}
+use Rattle.std.specs.Prelude.{ℕ, ◌*◌, Bool, false, ◌==◌, ◌&&◌, ◌||◌, not, if◌then◌else◌, Option, Some, None}
 use Rattle.wx_base.specs.declared.machine.Machine.{Machine}
 use Rattle.wx_base.specs.Bits.{word_of_bytes, add_words, sub_words, rotated_right}
-use Rattle.wx_base.specs.Instruction.{Kind, AluImmediate, Svc, kind_of, opcode, rn, rd, rotation, immediate, sub, add}
+use Rattle.wx_base.specs.Instruction.{Kind, AluImmediate, Svc, kind_of, condition, opcode, sets_flags, rn, rd, rotation, immediate, is_not_pc, always, sub, add, mov}
 use Rattle.wx_base.specs.declared.image.Image.{Image}
 use Rattle.wx_base.specs.Image.{is_code_word}
 
@@ -67,7 +67,7 @@ immediate_operand word = rotated_right (immediate word) (2 * rotation word)
 abbrev pub value_of : (ℕ → ℕ) → ℕ → ℕ
 value_of registers register = if register == pc then add_words (registers pc) 8 else registers register
 
--- What a data-processing instruction computes of its two operands. The table has no opcode but these three.
+-- what mov, add and sub compute of their two operands
 abbrev pub alu_result : ℕ → ℕ → ℕ → ℕ
 alu_result op first second =
     if op == sub then sub_words first second else (if op == add then add_words first second else second)
@@ -80,16 +80,28 @@ alu_registers registers word =
     (alu_result (opcode word) (value_of registers (rn word)) (immediate_operand word)))
     pc (add_words (registers pc) 4)
 
--- the outcome of a word by its row
+-- The words of data processing whose effects are written down so far: mov, add and sub with an immediate, always
+-- executed, without flags, and without pc.
+abbrev pub is_plain_alu : ℕ → Bool
+is_plain_alu word =
+    (condition word == always) && ((opcode word == sub) || (opcode word == add) || (opcode word == mov))
+    && not (sets_flags word) && is_not_pc (rn word)
+
+-- The outcome of a word by its row. NOT YET WHOLE: the effects of the other instructions are not written down, so the
+-- machine stops at them as if they were none.
 abbrev pub executed : Machine → State → ℕ → Option Kind → Outcome
 executed machine state word None = Stopped Word
 executed machine state word (Some AluImmediate) =
+    if is_plain_alu word
+    then
     Next (record {
       state = record { registers = alu_registers state.registers word; flags = state.flags; memory = state.memory };
       taken = false;
       slow = false;
     })
-executed machine state word (Some Svc) = Ended
+    else Stopped Word
+executed machine state word (Some Svc) = if condition word == always then Ended else Stopped Word
+executed machine state word (Some _) = Stopped Word
 
 -- the word that the machine looks at
 abbrev pub current_word : State → ℕ

@@ -9,7 +9,7 @@ use std::marker::Model;
 pub struct Segment {
     /// The first address.
     pub first: u32,
-    /// How many bytes it fills, from 1 to 2^32.
+    /// How many bytes it fills, at least 1 in an image that was read.
     pub size: u64,
     /// Whether it holds code.
     pub code: bool,

@@ -4,6 +4,7 @@
 mod cursor;
 mod decimal;
 mod file;
+mod flow;
 mod hexadecimal;
 mod host_sink;
 mod host_store;
@@ -22,6 +23,7 @@ mod times;
 pub use cursor::Cursor;
 pub use decimal::{decimal_is_shortest, push_number};
 pub use file::File;
+pub use flow::FlowKind;
 pub use hexadecimal::push_word;
 pub use host_sink::HostSink;
 pub use host_store::HostStore;

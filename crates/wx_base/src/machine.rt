@@ -40,8 +40,11 @@ pub struct Shape {
 /// A range of addresses, first and last included.
 #[derive(Debug, Drop)]
 pub struct Region {
+    /// What the description calls it.
     pub name: Text,
+    /// Its first address.
     pub first: u32,
+    /// Its last address, which belongs to it.
     pub last: u32,
     /// Whether an access to a byte of it is slow.
     pub slow: bool,
@@ -89,9 +92,13 @@ pub struct Machine {
     pub hit: u64,
     /// Cycles that a fetch takes besides if it misses.
     pub miss: u64,
+    /// The unit of data processing and branches.
     pub alu: Unit,
+    /// The unit of multiplications.
     pub mul: Unit,
+    /// The unit of loads and stores.
     pub mem: Unit,
+    /// The regions of memory that the description names.
     pub regions: Regions,
     /// The instruction cache.
     pub shape: Shape,

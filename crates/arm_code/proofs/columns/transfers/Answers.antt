@@ -1,9 +1,14 @@
-use Rattle.std.proofs.Common.{sym}
-use Rattle.arm_code.proofs.Timing.{alu_columns, svc_columns}
+use Rattle.std.proofs.Common.{◌∙◌, arith}
+use Rattle.arm_code.proofs.Timing.{transfers_are, transfers_in_range}
 use Rattle.arm_code.proofs.columns.transfers.Goals as goal
 
-pub returns-in-Alu-clause-value : goal.returns-in-Alu-clause-value
-returns-in-Alu-clause-value c = sym (alu_columns c.args.insn.now _ _ _ _ _ c.requires c.in-Alu.is).columns.transfers_are
+pub returns-clause-value : goal.returns-clause-value
+returns-clause-value c = c.op_transfers.ensures ∙ transfers_are c.args.insn.now c.requires
 
-pub returns-in-Svc-clause-value : goal.returns-in-Svc-clause-value
-returns-in-Svc-clause-value c = sym (svc_columns c.args.insn.now _ c.requires c.in-Svc.is).transfers_are
+pub returns-clause-few : goal.returns-clause-few
+returns-clause-few c =
+    let range = transfers_in_range c.args.insn.now c.requires in let is = c.op_transfers.ensures in omega arith
+
+pub returns-clause-some : goal.returns-clause-some
+returns-clause-some c =
+    let range = transfers_in_range c.args.insn.now c.requires in let is = c.op_transfers.ensures in omega arith
