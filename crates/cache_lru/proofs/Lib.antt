@@ -1,0 +1,2 @@
+mod Caches
+mod Lines

@@ -1,0 +1,2 @@
+pub mod Lru
+pub mod Laws

@@ -1,0 +1,26 @@
+use Rattle.std.proofs.Common.{◌≡◌, ℕ, eqb, ap, ◌∙◌, is_some, ◌||◌}
+use Rattle.std.specs.Option.{unwrap_or}
+use Rattle.std.specs.FinMap as map
+use Rattle.wx_base.specs.State.{replaced}
+use Rattle.wx_mem.specs.Memory.{Written}
+use Rattle.wx_mem.proofs.Entries.{got, put, chosen, marked}
+use Rattle.wx_mem.proofs.memory.Memory.write.Goals as goal
+use Rattle.wx_mem.proofs.memory.Memory.write.Goals.{In_ok-insert}
+
+entered : (c : In_ok-insert) → ◌≡◌ {A = Written} (map.from_entries c.insert.new.self.entries) (map.insert (map.from_entries c.self.inside.bytes.entries) c.args.addr c.args.b)
+entered c = put c.self.inside.bytes.entries c.insert.new.self.entries c.args.addr c.args.b c.in_ok-insert.ensures.updates.0
+
+byte_of : (m n : Written) (k v fill q : ℕ) → n ≡ map.insert m k v → unwrap_or (map.get n q) fill ≡ replaced (λ at. unwrap_or (map.get m at) fill) k v q
+byte_of m n k v fill q e = ap (λ n. unwrap_or (map.get n q) fill) e ∙ ap (λ o. unwrap_or o fill) (got m k v q) ∙ chosen (eqb q k) v fill (map.get m q)
+
+mark_of : (m n : Written) (k v q : ℕ) → n ≡ map.insert m k v → is_some (map.get n q) ≡ (eqb q k || is_some (map.get m q))
+mark_of m n k v q e = ap (λ n. is_some (map.get n q)) e ∙ ap is_some (got m k v q) ∙ marked (eqb q k) v (map.get m q)
+
+pub returns-clause-written : goal.returns-clause-written
+returns-clause-written c = rw (← c.self.view_is) (entered c)
+
+pub returns-clause-bytes : goal.returns-clause-bytes
+returns-clause-bytes c = rw (← c.self.view_is) (λ at. byte_of (map.from_entries c.self.inside.bytes.entries) (map.from_entries c.insert.new.self.entries) c.args.addr c.args.b c.self.inside.fill at (entered c))
+
+pub returns-clause-marks : goal.returns-clause-marks
+returns-clause-marks c = rw (← c.self.view_is) (λ at. mark_of (map.from_entries c.self.inside.bytes.entries) (map.from_entries c.insert.new.self.entries) c.args.addr c.args.b at (entered c))

@@ -1,0 +1,8 @@
+//! The bytes of a memory of 32-bit addresses: those that were written, and one byte everywhere else.
+#![tactic(auto)]
+
+mod memory;
+#[cfg(test)]
+mod tests;
+
+pub use memory::Memory;
