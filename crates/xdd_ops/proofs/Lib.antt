@@ -1,4 +1,10 @@
 mod ApplyLemmas
+mod DifferenceLemmas
+mod GivenLemmas
 mod GreatestLemmas
+mod NumberLemmas
 mod PairLemmas
+mod PlaceLemmas
+mod ReadLemmas
+mod RefusalLemmas
 mod TextLemmas

@@ -4,6 +4,7 @@ ghost use Rattle.xdd_ops.specs.Cofactors.{BeginsFrom, HasRoot, IsCofactors, IsEx
 use xdd_table::{Dd, Node, Table};
 
 /// How two diagrams are taken apart.
+#[derive(Drop)]
 pub enum Expansion {
     /// Both are leaves, with these times.
     Leaves(u64, u64),

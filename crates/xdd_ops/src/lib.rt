@@ -2,16 +2,22 @@
 #![tactic(auto)]
 
 mod cofactors;
+mod diagram_error;
+mod difference;
 mod given;
 mod leaves;
+mod lines;
 mod pairs;
 mod pointwise;
 mod print;
+mod read;
 #[cfg(test)]
 mod tests;
 
+pub use diagram_error::DiagramError;
 pub use given::{fix, rise};
 pub use leaves::greatest;
 pub use pairs::{Pairs, zip};
 pub use pointwise::{max, minus, plus};
 pub use print::print_diagram;
+pub use read::read_diagram;

@@ -1,6 +1,8 @@
 ghost use Rattle.std.specs.Prelude.{◌<◌, length};
 
-use crate::{Pairs, fix, greatest, max, minus, plus, print_diagram, rise, zip};
+use crate::{
+    DiagramError, Pairs, fix, greatest, max, minus, plus, print_diagram, read_diagram, rise, zip,
+};
 use std::alloc::Global;
 use std::process::Abort;
 use std::test::Fail;
@@ -213,4 +215,68 @@ fn addresses_read(rt: HostRuntime) {
     assert_eq!(rt; cursor.hex(), Some(48879));
     assert_eq!(rt; (cursor.hex(), cursor.place()), (None, 8));
     assert!(rt; !cursor.at_end());
+}
+
+#[test]
+fn event_given_of_many(rt: HostRuntime) -> Result<(), Fail> {
+    let mut table = Table::new(rt.alloc());
+    let even = parity(&rt, rt.alloc(), &mut table)?;
+    known(&rt, &table, even);
+    let fixed = fix(rt.alloc(), &mut table, even, 30, true)?;
+    known(&rt, &table, fixed);
+    assert_eq!(rt; table.size(fixed)?, 119);
+    known(&rt, &table, even);
+    assert_eq!(rt; rise(rt.alloc(), &mut table, even, 30)?, 2);
+    Ok(())
+}
+
+fn read(alloc: Global, bytes: &[u8]) -> Result<Dd, DiagramError> {
+    let mut table = Table::new(alloc);
+    read_diagram(alloc, &mut table, bytes)
+}
+
+#[test]
+fn two_slots_read_back(rt: HostRuntime) -> Result<(), Fail> {
+    let bytes =
+        b"dd 7\nleaf 6\nleaf 12\nbranch 1 0 1\nleaf 14\nleaf 20\nbranch 1 3 4\nbranch 0 2 5\n";
+    let mut table = Table::new(rt.alloc());
+    let root = Dd { place: 6 };
+    assert_eq!(rt; read_diagram(rt.alloc(), &mut table, bytes), Ok(root));
+    let shown = text(&rt, rt.alloc(), &table, root)?;
+    assert_eq!(rt; shown.as_slice(), bytes.as_slice());
+    Ok(())
+}
+
+#[test]
+fn texts_refused(rt: HostRuntime) {
+    let cases: [(&[u8], DiagramError); 7] = [
+        (b"dd 0\n", DiagramError::Syntax { at: 0 }),
+        (b"dd 1\nleaf 5", DiagramError::Syntax { at: 5 }),
+        (b"dd 1\nleaf 05\n", DiagramError::Syntax { at: 5 }),
+        (b"dd 2\nleaf 5\n", DiagramError::Syntax { at: 12 }),
+        (b"dd 1\nleaf 5\nleaf 6\n", DiagramError::Syntax { at: 12 }),
+        (
+            b"dd 2\nleaf 5\nleaf 5\n",
+            DiagramError::NotReduced { line: 3 },
+        ),
+        (
+            b"dd 3\nleaf 7\nleaf 5\nbranch 1 1 0\n",
+            DiagramError::Order { line: 2 },
+        ),
+    ];
+    for (bytes, refusal) in cases {
+        assert_eq!(rt; read(rt.alloc(), bytes), Err(refusal));
+    }
+}
+
+#[test]
+fn many_events_read_back(rt: HostRuntime) -> Result<(), Fail> {
+    let mut table = Table::new(rt.alloc());
+    let even = parity(&rt, rt.alloc(), &mut table)?;
+    let shown = text(&rt, rt.alloc(), &table, even)?;
+    assert_eq!(rt;
+        read_diagram(rt.alloc(), &mut table, shown.as_slice()),
+        Ok(even)
+    );
+    Ok(())
 }

@@ -4,10 +4,5 @@ use Rattle.xdd_ops.proofs.given.rise.Goals as goal
 pub returns-in_err-hit-clause-kept : goal.returns-in_err-hit-clause-kept
 returns-in_err-hit-clause-kept c = keeps_twice c.args.table.now c.fix.new.table c.fix-2.new.table c.fix.ensures.kept c.fix-2.ensures.kept
 
-pub returns-in_err-risen-clause-kept : goal.returns-in_err-risen-clause-kept
-returns-in_err-risen-clause-kept c =
-    keeps_twice c.args.table.now c.fix-2.new.table c.minus.new.table (keeps_twice c.args.table.now c.fix.new.table c.fix-2.new.table c.fix.ensures.kept c.fix-2.ensures.kept) c.minus.ensures.kept
-
 pub returns-clause-kept : goal.returns-clause-kept
-returns-clause-kept c =
-    keeps_twice c.args.table.now c.fix-2.new.table c.minus.new.table (keeps_twice c.args.table.now c.fix.new.table c.fix-2.new.table c.fix.ensures.kept c.fix-2.ensures.kept) c.minus.ensures.kept
+returns-clause-kept c = keeps_twice c.args.table.now c.fix.new.table c.fix-2.new.table c.fix.ensures.kept c.fix-2.ensures.kept

@@ -1,0 +1,11 @@
+use Rattle.std.proofs.Common.{◌≡◌, length}
+use Rattle.xdd_table.specs.Diagram.{Keeps}
+use Rattle.xdd_ops.specs.Read.{ArePlaced}
+use Rattle.xdd_ops.proofs.read.place_lines.Given as goal
+
+abbrev pub invariant-loop-index : goal.invariant-loop-index
+invariant-loop-index l = record {
+  kept : Keeps l.initial.table l.table;
+  placed : ArePlaced l.table l.lines l.places.keys;
+  counted : length l.places.keys ≡ l.index;
+}
