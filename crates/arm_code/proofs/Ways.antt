@@ -22,7 +22,7 @@ target_by : (address words : ℕ) (b : Bool) → ltb words (2 ^ 23) ≡ b → wo
 target_by address words true e small = omega arith
 target_by address words false e small = let h = ltb-false words (2 ^ 23) e in omega (arith, ints)
 
-target_is : (address words : ℕ) → words < 2 ^ 24 → offset_target address (signed_offset words) ≡ branch_target address words
+pub target_is : (address words : ℕ) → words < 2 ^ 24 → offset_target address (signed_offset words) ≡ branch_target address words
 target_is address words small = target_by address words (ltb words (2 ^ 23)) refl small
 
 flow_as : (word address : ℕ) (kind : Kind) → op_flow (condition word) address (op_by word kind) ≡ flow_by word address kind

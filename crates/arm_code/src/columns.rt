@@ -3,20 +3,15 @@
 ghost use Rattle.std.specs.Prelude.{◌≡◌, ◌≤◌, bit_or};
 ghost use Rattle.wx_base.specs.Instruction.{reads_of, writes_of, unit_of, transfers_of, register_bit, flags_bit, where_so, list_bits, alu_reads, shift_reads, two_registers, mul_reads, transfer_reads, result_writes, alu_writes, transfer_writes, link_writes};
 ghost use Rattle.arm_code.specs.Encoding.{IsValid, word_of};
-ghost use Rattle.arm_code.specs.Columns.{operand_reads, offset_reads, half_offset_reads, half_loads, index_changes, op_reads, insn_reads, op_writes, op_unit, op_transfers};
+ghost use Rattle.arm_code.specs.Columns.{operand_reads, offset_reads, half_offset_reads, op_reads, insn_reads, op_writes, op_unit, op_transfers};
 
-use crate::insn::{HalfKind, HalfOffset, Index, Insn, Offset, Op, Operand};
+use crate::codes::{ALWAYS, LR};
+use crate::insn::{HalfOffset, Insn, Offset, Op, Operand};
 use crate::settings::{is_compare, is_move, takes_carry};
 use wx_base::UnitKind;
 
-/// The code of the condition "always".
-const ALWAYS: u8 = 14;
-
 /// The flags as a resource.
 const FLAGS: u16 = 1 << 15;
-
-/// The number of the link register.
-const LR: u8 = 14;
 
 /// A register as a resource; pc is none.
 #[tactic(auto, using(std::proofs::lemmas::Nat::one_shl))]
@@ -99,26 +94,6 @@ fn transfer_reads(load: bool, base: u8, index: u16, stored: u16) -> u16
     register_bit(base) | (index | where_so(!load, stored))
 }
 
-/// Whether a transfer of a half word or a signed byte loads.
-fn half_loads(kind: HalfKind) -> bool
-    ensures { result ≡ half_loads kind }
-{
-    match kind {
-        HalfKind::Strh => false,
-        HalfKind::Ldrh | HalfKind::Ldrsb | HalfKind::Ldrsh => true,
-    }
-}
-
-/// Whether a transfer changes its base.
-fn index_changes(index: Index) -> bool
-    ensures { result ≡ index_changes index }
-{
-    match index {
-        Index::Plain => false,
-        Index::Pre | Index::Post => true,
-    }
-}
-
 /// What an operation reads, its condition aside.
 fn op_reads(op: Op) -> u16
     ensures { result ≡ op_reads op }
@@ -160,7 +135,7 @@ fn op_reads(op: Op) -> u16
             ..
         } => {
             transfer_reads(
-                half_loads(kind),
+                kind.loads(),
                 rn,
                 half_offset_reads(offset),
                 register_bit(rd),
@@ -221,14 +196,14 @@ fn op_writes(op: Op) -> u16
             rn,
             index,
             ..
-        } => transfer_writes(load, index_changes(index), rn, register_bit(rd)),
+        } => transfer_writes(load, index.changes_base(), rn, register_bit(rd)),
         Op::Half {
             kind,
             rd,
             rn,
             index,
             ..
-        } => { transfer_writes(half_loads(kind), index_changes(index), rn, register_bit(rd)) }
+        } => { transfer_writes(kind.loads(), index.changes_base(), rn, register_bit(rd)) }
         Op::Block {
             load,
             wback,

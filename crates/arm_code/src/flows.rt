@@ -1,23 +1,16 @@
 //! Where an instruction may go on. ARM Architecture Reference Manual; which forms are returns is this project's own.
 
-ghost use Rattle.std.specs.Prelude.{◌≡◌, true};
+ghost use Rattle.std.specs.Prelude.{◌≡◌, ℕ, ◌<◌, ◌^◌, true};
 ghost use Rattle.wx_base.specs.Flow.{may_pass, no_flow, goes_on, flow_of, branch_flow, jump_flow, exchange_flow, block_flow, load_flow, pops};
 ghost use Rattle.arm_code.specs.Encoding.{IsValid, word_of};
-ghost use Rattle.arm_code.specs.Flows.{offset_target, adds_before, takes_word, op_flow};
+ghost use Rattle.wx_base.specs.Flow.{branch_target};
+ghost use Rattle.arm_code.specs.Encoding.{signed_offset};
+ghost use Rattle.arm_code.specs.Flows.{offset_target, takes_word, op_flow};
 
+use crate::codes::{ALWAYS, LR, PC, SP};
 use crate::insn::{Index, Insn, Offset, Op};
 use crate::settings::is_listed;
 use wx_base::FlowKind;
-
-/// The code of the condition "always".
-const ALWAYS: u8 = 14;
-
-/// The numbers of the stack pointer, the link register, and the register that holds the address.
-const SP: u8 = 13;
-
-const LR: u8 = 14;
-
-const PC: u8 = 15;
 
 /// Whether an instruction of this condition may not be executed, and go on.
 fn may_pass(cond: u8) -> bool
@@ -51,13 +44,18 @@ fn goes_on() -> FlowKind
     }
 }
 
-/// The target of a branch, modulo 2^32.
-fn offset_target(addr: u32, words: i32) -> u32
+/// The target of a branch at an address, by so many words from the instruction after the next. Modulo 2^32.
+pub fn offset_target(addr: u32, words: i32) -> u32
     ensures { result ≡ offset_target addr words }
 {
     addr.wrapping_add(8)
         .wrapping_add(words.cast_unsigned().wrapping_mul(4))
 }
+
+/// A law of branches: the target by the offset that is read in a word is the one that the word's bits say.
+pub fn offsets_give_targets()
+    ensures { (address words : ℕ) → words < 2 ^ 24 → offset_target address (signed_offset words) ≡ branch_target address words }
+{}
 
 /// A branch jumps, or calls if it links; behind a call it goes on.
 fn branch_flow(cond: u8, link: bool, target: u32) -> FlowKind
@@ -125,22 +123,12 @@ fn load_flow(cond: u8, load: bool, to: u8, returns: bool) -> FlowKind
     }
 }
 
-/// Whether the offset is added before the transfer.
-fn adds_before(index: Index) -> bool
-    ensures { result ≡ adds_before index }
-{
-    match index {
-        Index::Plain | Index::Pre => true,
-        Index::Post => false,
-    }
-}
-
 /// Whether a transfer takes one word from the stack.
 fn takes_word(base: u8, index: Index, up: bool, offset: Offset) -> bool
     ensures { result ≡ takes_word base index up offset }
 {
     match offset {
-        Offset::Imm { value } => base == SP && !adds_before(index) && up && value == 4,
+        Offset::Imm { value } => base == SP && !index.adds_before() && up && value == 4,
         Offset::Reg { .. } => false,
     }
 }

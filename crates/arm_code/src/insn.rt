@@ -1,3 +1,7 @@
+ghost use Rattle.std.specs.Prelude.{◌≡◌};
+ghost use Rattle.arm_code.specs.Columns.{half_loads, index_changes};
+ghost use Rattle.arm_code.specs.Flows.{adds_before};
+
 /// The second operand of a data-processing instruction.
 #[derive(Clone, Copy, Debug, PartialEq, Eq)]
 pub enum Operand {
@@ -39,6 +43,18 @@ pub enum HalfKind {
     Ldrsh,
 }
 
+impl HalfKind {
+    /// Whether it loads.
+    pub fn loads(self) -> bool
+        ensures { result ≡ half_loads self }
+    {
+        match self {
+            HalfKind::Strh => false,
+            HalfKind::Ldrh | HalfKind::Ldrsb | HalfKind::Ldrsh => true,
+        }
+    }
+}
+
 /// How a transfer uses its offset.
 #[derive(Clone, Copy, Debug, PartialEq, Eq)]
 pub enum Index {
@@ -48,6 +64,28 @@ pub enum Index {
     Pre,
     /// The address is the base, to which the offset is added afterwards.
     Post,
+}
+
+impl Index {
+    /// Whether the offset is added before the transfer.
+    pub fn adds_before(self) -> bool
+        ensures { result ≡ adds_before self }
+    {
+        match self {
+            Index::Plain | Index::Pre => true,
+            Index::Post => false,
+        }
+    }
+
+    /// Whether the base is changed.
+    pub fn changes_base(self) -> bool
+        ensures { result ≡ index_changes self }
+    {
+        match self {
+            Index::Plain => false,
+            Index::Pre | Index::Post => true,
+        }
+    }
 }
 
 /// What an instruction does, with its fields as they stand in the word. Registers are numbers below 16; `up` says that an

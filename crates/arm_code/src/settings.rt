@@ -4,18 +4,17 @@ ghost use Rattle.std.specs.Prelude.{◌≡◌, ◌<◌};
 ghost use Rattle.wx_base.specs.Bits.{is_in};
 ghost use Rattle.wx_base.specs.Instruction.{is_compare, is_move, takes_carry, is_alu_setting, changes_base, is_not_pc, is_base_setting, is_target_setting, is_index_setting, is_block_setting};
 
-/// The number of the register that holds the address.
-const PC: u8 = 15;
+use crate::codes::PC;
 
-/// Whether an opcode only compares.
-pub(crate) fn is_compare(code: u8) -> bool
+/// Whether an opcode only compares: tst, teq, cmp and cmn have no result.
+pub fn is_compare(code: u8) -> bool
     ensures { result ≡ is_compare code }
 {
     code / 4 == 2
 }
 
 /// Whether an opcode has no first operand.
-pub(crate) fn is_move(code: u8) -> bool
+pub fn is_move(code: u8) -> bool
     ensures { result ≡ is_move code }
 {
     code == 13 || code == 15
@@ -64,7 +63,7 @@ pub(crate) fn is_index_setting(before: bool, back: bool, base: u8, index: u8) ->
 }
 
 /// Whether a register, whose number is below 16, is in a list that has a bit for each.
-pub(crate) fn is_listed(list: u16, register: u8) -> bool
+pub fn is_listed(list: u16, register: u8) -> bool
     requires { register < 16 }
     ensures { result ≡ is_in list register }
 {

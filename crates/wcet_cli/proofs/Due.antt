@@ -1,11 +1,11 @@
 -- Of a store that tells its contents and does not fail, one reply is due.
-use Rattle.std.proofs.Common.{◌≡◌, ℕ, ◌+◌, ◌<◌, ◌≤◌, ◌⊎◌, inl, inr, List, [], ◌∷◌, ◌++◌, length, Option, Some, None, refl, sym, ap, ◌∙◌, subst, arith, length-append}
-use Rattle.wx_base.specs.Outside.{Contents, Rose, longest_file}
+use Rattle.std.proofs.Common.{◌≡◌, ℕ, ◌<◌, ◌≤◌, ◌⊎◌, inl, inr, List, ◌++◌, length, Option, Some, None, refl, sym, ap, ◌∙◌, subst, arith, length-append}
+use Rattle.wx_base.specs.Outside.{Contents, Rose}
 use Rattle.wcet_cli.specs.declared.reply.Reply.{Reply}
 use Rattle.wcet_cli.specs.declared.reply.Reply.TheVariants as reply
-use Rattle.wcet_cli.specs.Reply.{status_of, text_of, starved}
+use Rattle.wcet_cli.specs.Reply.{starved}
 use Rattle.wcet_cli.specs.Flat.{IsBoundReply, IsNoFault}
-use Rattle.wcet_cli.specs.Call.{FitsForm, IsFlat, FlatCause, HasCause, NoForm, OfFlat, Took, IsSaid, InFull, Wanting, HandsOver, Whole, Unwritten, Starved, EndsWith}
+use Rattle.wcet_cli.specs.Call.{FlatCause, HasCause, NoForm, OfFlat, Took, IsSaid, InFull, Wanting, HandsOver, Whole, Unwritten, Starved, EndsWith}
 use Rattle.wcet_cli.proofs.Reading.{one_bound_reply}
 
 -- what a store with these contents has under a name, and the reply that this calls for

@@ -1,12 +1,12 @@
 -- What each status of a call says.
-use Rattle.std.proofs.Common.{◌≡◌, ℕ, ◌<◌, ◌≤◌, ◌⊎◌, inl, inr, List, Option, Some, None, refl, sym, ap, ◌∙◌, subst, arith}
+use Rattle.std.proofs.Common.{◌≡◌, ℕ, ◌<◌, inl, inr, List, Option, sym, ◌∙◌, subst, arith}
 use Rattle.wx_base.specs.Machine.{m1, IsMachine}
 use Rattle.wx_base.specs.Outside.{Contents, Rose}
 use Rattle.pipe_time.specs.Order.{WorseCompletesNoEarlier}
 use Rattle.wcet_cli.specs.declared.reply.Reply.{Reply}
 use Rattle.wcet_cli.specs.declared.reply.Reply.TheVariants as reply
 use Rattle.wcet_cli.specs.Reply.{status_of, text_of}
-use Rattle.wcet_cli.specs.Call.{FitsForm, IsFlat, HasCause, NoForm, OfFlat, Took, IsAnswer, Says, Starves, HandsOver, Whole, Unwritten, Starved, AnswersBound, RefusesImage, ReadsNothing, IsTooLarge}
+use Rattle.wcet_cli.specs.Call.{FitsForm, HasCause, NoForm, OfFlat, Took, IsAnswer, Says, Starves, HandsOver, Whole, Unwritten, Starved, AnswersBound, RefusesImage, ReadsNothing, IsTooLarge}
 use Rattle.wcet_cli.proofs.Running.{every_run_ends_within}
 
 -- how a call ended, as the answer and its handing over say

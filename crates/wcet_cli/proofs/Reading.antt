@@ -1,11 +1,10 @@
 -- Bytes are read as a straight program in one way.
-use Rattle.std.proofs.Common.{◌≡◌, ℕ, ◌+◌, ◌*◌, ◌/◌, ◌%◌, ◌^◌, ◌<◌, ◌≤◌, ◌⊎◌, inl, inr, List, [], ◌∷◌, ◌++◌, length, Some, None, refl, sym, ap, ◌∙◌, subst, arith, append_assoc, length-append}
+use Rattle.std.proofs.Common.{◌≡◌, ℕ, ◌/◌, ◌%◌, ◌^◌, ◌<◌, List, [], ◌∷◌, ◌++◌, length, refl, sym, ap, ◌∙◌, subst, arith, append_assoc, length-append}
 use Rattle.std.proofs.lemmas.List.Concat.{flat_map-cons}
 use Rattle.std.proofs.lemmas.Grind.{flat_map-append}
 use Rattle.std.specs.List.{AllByRecursion}
 use Rattle.wx_base.specs.Bits.{bytes_of_word}
 use Rattle.wx_base.specs.Machine.{m1}
-use Rattle.wx_base.specs.Instruction.{Kind, AluImmediate, Svc, kind_of}
 use Rattle.wcet_cli.specs.declared.reply.Reply.{Reply}
 use Rattle.wcet_cli.specs.declared.reply.Reply.TheVariants as reply
 use Rattle.wcet_cli.specs.Straight.{IsPlain, IsLast, bytes_of, address_behind, IsProgram, IsCutOff, IsForeign, bound_of}

@@ -1,12 +1,10 @@
 -- Some reply is due, whatever a store holds.
-use Rattle.std.proofs.Common.{◌≡◌, ℕ, ◌+◌, ◌*◌, ◌/◌, ◌%◌, ◌^◌, ◌<◌, ◌≤◌, ◌⊎◌, inl, inr, Bool, true, false, List, [], ◌∷◌, ◌++◌, length, take, drop, get_or, Option, Some, None, refl, sym, ap, ◌∙◌, subst, ⊎_elim, arith, append_assoc, length-append, length-drop}
+use Rattle.std.proofs.Common.{◌≡◌, ℕ, ◌+◌, ◌*◌, ◌/◌, ◌%◌, ◌^◌, ◌<◌, ◌≤◌, ◌⊎◌, inl, inr, Bool, true, false, List, [], ◌∷◌, ◌++◌, length, take, drop, Option, Some, None, refl, sym, ap, ◌∙◌, subst, ⊎_elim, arith, append_assoc, length-drop}
 use Rattle.std.specs.Prelude.{◌==◌, codes}
 use Rattle.std.specs.List.{AllByRecursion}
-use Rattle.std.specs.Int.{from_le_bytes, w32}
 use Rattle.std.proofs.lemmas.List.{take-append-drop, length-take-le}
 use Rattle.std.proofs.lemmas.List.Concat.{flat_map-cons}
-use Rattle.std.proofs.lemmas.Nat.{le_bytes_4}
-use Rattle.std.proofs.lemmas.Bool.{both_ways, cases_lt, cases_Bool}
+use Rattle.std.proofs.lemmas.Bool.{both_ways, cases_lt}
 use Rattle.std.proofs.lemmas.Slice.Eq.{bytes_eq-Decides}
 use Rattle.std.specs.Str.{bytes_eq}
 use Rattle.wx_base.specs.Bits.{bytes_of_word}
@@ -16,8 +14,8 @@ use Rattle.wx_base.specs.Outside.{Contents}
 use Rattle.wcet_cli.specs.declared.reply.Reply.{Reply}
 use Rattle.wcet_cli.specs.declared.reply.Reply.TheVariants as reply
 use Rattle.wcet_cli.specs.Straight.{is_plain_alu, origin, IsPlain, IsLast, bytes_of, address_behind, IsProgram, IsCutOff, IsForeign, bound_of}
-use Rattle.wcet_cli.specs.Flat.{IsBoundReply, IsNoFault}
-use Rattle.wcet_cli.specs.Call.{FitsForm, IsFlat, FlatCause, HasCause, NoForm, OfFlat, AreBytes}
+use Rattle.wcet_cli.specs.Flat.{IsNoFault}
+use Rattle.wcet_cli.specs.Call.{FitsForm, FlatCause, HasCause, NoForm, OfFlat, AreBytes}
 
 -- how the words of some bytes go, from a number of words on
 data Course (bytes : List ℕ) : Type 0 where

@@ -12,6 +12,7 @@ use Rattle.wcet_cli.specs.declared.straight.Role.TheVariants.{Plain, Last}
 use Rattle.wx_base.specs.Recurrence.{Entry, past_of, completion}
 use Rattle.wx_base.specs.declared.image.Image.{Image}
 use Rattle.wx_base.specs.Image.{code_image}
+use Rattle.wx_base.specs.Monitor.{Rules}
 use Rattle.wx_base.specs.Run.{Start, IsStart, Obeys, run_of, time_of}
 
 -- where the first word of a straight program is placed
@@ -100,9 +101,9 @@ bound_of machine words = completion [] (past_of machine [] (reverse (map missing
 abbrev pub image_of : List ℕ → Image
 image_of words = code_image origin (bytes_of words)
 
--- Every run of the image on the machine, from every start, that obeys the flow facts (there are none) and however many
+-- Every run of the image on the machine, from every start, that obeys the rules, whatever they are, and however many
 -- instructions it has, takes at most so many cycles.
 abbrev pub EachRunTakesAtMost : Machine → Image → ℕ → ℕ → Type 0
 EachRunTakesAtMost machine image entry cycles =
-    (start : Start) (n : ℕ) → IsStart machine image entry start → Obeys (run_of machine image entry start n) →
-    time_of (run_of machine image entry start n) ≤ cycles
+    (rules : Rules) (start : Start) (n : ℕ) → IsStart machine image entry start →
+    Obeys (run_of machine image rules entry start n) → time_of (run_of machine image rules entry start n) ≤ cycles

@@ -4,7 +4,7 @@ ghost use Rattle.wx_base.specs.Machine.{m1, IsMachine};
 ghost use Rattle.wcet_cli.specs.Straight.{IsProgram, EachRunTakesAtMost, origin, image_of, bound_of, is_plain_alu, op_role};
 ghost use Rattle.wcet_cli.specs.Refusal.{HasFault};
 
-use arm_code::{Insn, Op, Operand, decode};
+use arm_code::{ALWAYS, Insn, Op, Operand, PC, decode};
 use pipe_time::{Entry, Vector, advance, windows_follow_the_past, worse_is_no_faster};
 use wx_base::Machine;
 
@@ -29,18 +29,12 @@ enum Role {
     Last,
 }
 
-/// The code of the condition "always".
-const ALWAYS: u8 = 14;
-
 /// The opcodes that a straight program may have.
 const SUB: u8 = 2;
 
 const ADD: u8 = 4;
 
 const MOV: u8 = 13;
-
-/// The number of the register that holds the address.
-const PC: u8 = 15;
 
 /// Whether data processing may stand in a straight program.
 fn is_plain_alu(cond: u8, op: u8, s: bool, rn: u8) -> bool

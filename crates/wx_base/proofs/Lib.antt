@@ -3,3 +3,4 @@ pub mod Found
 pub mod Held
 pub mod MachineLemmas
 pub mod Covered
+pub mod Ranges

@@ -1,12 +1,12 @@
 -- Words as numbers, and the numbers that stand in their bits.
-use Rattle.std.specs.Prelude.{ℕ, ◌+◌, ◌-◌, ◌*◌, ◌/◌, ◌%◌, ◌^◌, Bool, ◌==◌, List}
+use Rattle.std.specs.Prelude.{ℕ, ◌+◌, ◌-◌, ◌*◌, ◌/◌, ◌%◌, ◌^◌, Bool, if◌then◌else◌, ◌==◌, List}
 use Rattle.std.specs.Int.{to_le_bytes, w32}
 
 -- bits high to low of a word, as a number
 abbrev pub bits : ℕ → ℕ → ℕ → ℕ
 bits high low word = word / 2 ^ low % 2 ^ (high + 1 - low)
 
--- bit k of a set of small numbers: whether k is in the set
+-- bit k of a number; where it stands for a set of small numbers, whether k is in the set
 abbrev pub is_in : ℕ → ℕ → Bool
 is_in set k = set / 2 ^ k % 2 == 1
 
@@ -26,6 +26,14 @@ add_words a b = (a + b) % 2 ^ 32
 abbrev pub sub_words : ℕ → ℕ → ℕ
 sub_words a b = (a + 2 ^ 32 - b) % 2 ^ 32
 
--- a word rotated right by fewer than 32 bits
-abbrev pub rotated_right : ℕ → ℕ → ℕ
-rotated_right word by = word / 2 ^ by + word % 2 ^ by * 2 ^ (32 - by)
+-- whether the top bit of a word is set, which is the sign of the number that it stands for
+abbrev pub is_negative : ℕ → Bool
+is_negative word = is_in word 31
+
+-- a word as 64 bits, with copies of its top bit in front
+abbrev pub sign_extended : ℕ → ℕ
+sign_extended word = word + (if is_negative word then 2 ^ 64 - 2 ^ 32 else 0)
+
+-- a word with each bit turned
+abbrev pub inverted : ℕ → ℕ
+inverted word = 2 ^ 32 - 1 - word

@@ -12,7 +12,13 @@ pub mod Machine
 pub mod Instruction
 pub mod Flow
 pub mod Image
+pub mod Facts
+pub mod Ways
+pub mod Shifter
+pub mod Arithmetic
 pub mod State
+pub mod Transfer
+pub mod Step
 pub mod Cache
 pub mod Recurrence
 pub mod Vector

@@ -115,7 +115,7 @@ pub struct Image {
 impl Image {
     ghost use Rattle.std.specs.Prelude.{IsSome};
     ghost use Rattle.std.specs.Option.{option_copied};
-    ghost use Rattle.wx_base.specs.Image.{Covers, IsCodeAt, byte_of, segment_of, has_code, spans, word_of};
+    ghost use Rattle.wx_base.specs.Image.{Covers, IsCodeAt, byte_of, segment_of, has_code, is_code_word, spans, word_of};
     ghost use Rattle.wx_base.specs.Bits.{add_words};
 
     // The first segment in which an address lies.
@@ -148,6 +148,17 @@ impl Image {
             self.byte_at(addr.wrapping_add(3))?,
         ];
         Some(u32::from_le_bytes(bytes))
+    }
+
+    /// Whether a word of code stands at an address: a multiple of 4 whose four bytes lie in segments that hold code.
+    pub fn is_code_word(&self, addr: u32) -> bool
+        ensures { result ≡ is_code_word self.now addr }
+    {
+        addr % 4 == 0
+            && self.is_code(addr)
+            && self.is_code(addr + 1)
+            && self.is_code(addr + 2)
+            && self.is_code(addr + 3)
     }
 
     /// Whether an address lies in a segment that holds code.

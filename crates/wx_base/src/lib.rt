@@ -3,6 +3,7 @@
 
 mod cursor;
 mod decimal;
+mod facts;
 mod file;
 mod flow;
 mod hexadecimal;
@@ -15,6 +16,7 @@ mod mem_store;
 mod memory;
 mod outages;
 mod sink;
+mod step;
 mod store;
 mod symbol;
 mod text;
@@ -22,6 +24,7 @@ mod times;
 
 pub use cursor::Cursor;
 pub use decimal::{decimal_is_shortest, push_number};
+pub use facts::{Addresses, Facts, LoopFact, LoopFacts, TargetFact, TargetFacts};
 pub use file::File;
 pub use flow::FlowKind;
 pub use hexadecimal::push_word;
@@ -33,6 +36,7 @@ pub use mem_sink::MemSink;
 pub use mem_store::MemStore;
 pub use memory::NoMemory;
 pub use sink::{Sink, SinkFault};
+pub use step::{BlockTransfer, Computed, Datum, Flags, Shifted, Transfer, Why};
 pub use store::{Store, StoreFault};
 pub use symbol::{Symbol, find_symbol};
 pub use text::Text;

@@ -1,10 +1,10 @@
 -- A memory of bytes at 32-bit addresses, of which some have been written. This project's own.
-use Rattle.std.specs.Prelude.{ℕ, Bool, List, [], ◌∷◌, nat_lt, refl}
+use Rattle.std.specs.Prelude.{ℕ, Bool, List, [], ◌∷◌, refl}
 use Rattle.std.specs.Option.{unwrap_or}
 use Rattle.std.specs.Ordering.{nat_cmp}
 use Rattle.std.specs.FinMap as map
 use Rattle.std.specs.Coded.{Coded, code_by, coded×, coded_ℕ}
-use Rattle.wx_base.specs.Bits.{add_words, sub_words}
+use Rattle.wx_base.specs.Bits.{add_words}
 
 -- bytes by their addresses
 abbrev pub Written : Type 0
@@ -32,11 +32,3 @@ byte_at memory address = unwrap_or (map.get memory.written address) memory.fill
 abbrev pub with_bytes : Written → ℕ → List ℕ → Written
 with_bytes written address [] = written
 with_bytes written address (b ∷ bytes) = with_bytes (map.insert written address b) (add_words address 1) bytes
-
--- how far an address lies behind another, modulo 2^32
-abbrev pub distance : ℕ → ℕ → ℕ
-distance from address = sub_words address from
-
--- whether an address is one of as many from the first on, modulo 2^32
-abbrev pub is_among : ℕ → ℕ → ℕ → Bool
-is_among first count address = nat_lt (distance first address) count

@@ -1,8 +1,8 @@
-ghost use Rattle.std.specs.Prelude.{◌≡◌, ◌≤◌, ◌<◌, ◌^◌, ℕ, Bool, true, ◌==◌, ◌||◌, length, slice_index, OnOk, OnErr, if◌then◌else◌};
+ghost use Rattle.std.specs.Prelude.{◌≡◌, ◌≤◌, ◌<◌, ◌^◌, ℕ, Bool, true, false, ◌==◌, ◌||◌, length, slice_index, OnOk, OnErr, if◌then◌else◌};
 ghost use Rattle.std.specs.FinMap as map;
 ghost use Rattle.std.specs.HashMap.{spare};
-ghost use Rattle.wx_base.specs.State.{replaced};
-ghost use Rattle.wx_mem.specs.Memory.{byte_at, is_written, with_bytes, distance, is_among};
+ghost use Rattle.wx_base.specs.State.{replaced, overwritten, is_among};
+ghost use Rattle.wx_mem.specs.Memory.{byte_at, is_written, with_bytes};
 
 use std::alloc::Global;
 use std::collections::HashMap;
@@ -68,6 +68,7 @@ impl Memory {
         ensures bytes { OnOk result ((at : ℕ) → byte_at self.new at ≡ replaced (byte_at self.old) addr b at) }
         ensures marks { OnOk result ((at : ℕ) → is_written self.new at ≡ (at == addr || is_written self.old at)) }
         ensures refused { OnErr result (self.new ≡ self.old) }
+        ensures absent { OnErr result (is_written self.old addr ≡ false) }
     {
         self.bytes.insert(addr, b)?;
         Ok(())
@@ -80,8 +81,8 @@ impl Memory {
         requires { length bytes.now ≤ 64 }
         ensures fill { self.new.fill ≡ self.old.fill }
         ensures written { OnOk result (self.new.written ≡ with_bytes self.old.written addr bytes.now) }
-        ensures bytes { OnOk result ((at : ℕ) → at < 2 ^ 32 → byte_at self.new at ≡ (if is_among addr (length bytes.now) at then slice_index bytes.now (distance addr at) else byte_at self.old at)) }
-        ensures marks { OnOk result ((at : ℕ) → at < 2 ^ 32 → is_written self.new at ≡ (is_among addr (length bytes.now) at || is_written self.old at)) }
+        ensures bytes { OnOk result ((at : ℕ) → byte_at self.new at ≡ overwritten (byte_at self.old) addr bytes.now at) }
+        ensures marks { OnOk result ((at : ℕ) → is_written self.new at ≡ (is_among addr (length bytes.now) at || is_written self.old at)) }
         ensures refused { OnErr result (self.new ≡ self.old) }
     {
         self.bytes.reserve(bytes.len())?;

@@ -1,4 +1,4 @@
-use Rattle.std.proofs.Common.{List, Option, map, string_bytes, subst}
+use Rattle.std.proofs.Common.{Option, map, string_bytes, subst}
 use Rattle.wx_base.specs.Outside.{Contents}
 use Rattle.wcet_cli.specs.Call.{HasCause}
 use Rattle.wcet_cli.proofs.Calls.{answer_of}

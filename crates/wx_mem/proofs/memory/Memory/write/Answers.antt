@@ -1,9 +1,9 @@
-use Rattle.std.proofs.Common.{◌≡◌, ℕ, eqb, ap, ◌∙◌, is_some, ◌||◌}
+use Rattle.std.proofs.Common.{◌≡◌, ℕ, eqb, ap, ◌∙◌, is_some, ◌||◌, Result, Ok, Err, OnErr}
 use Rattle.std.specs.Option.{unwrap_or}
 use Rattle.std.specs.FinMap as map
 use Rattle.wx_base.specs.State.{replaced}
 use Rattle.wx_mem.specs.Memory.{Written}
-use Rattle.wx_mem.proofs.Entries.{got, put, chosen, marked}
+use Rattle.wx_mem.proofs.Entries.{found, got, put, chosen, marked}
 use Rattle.wx_mem.proofs.memory.Memory.write.Goals as goal
 use Rattle.wx_mem.proofs.memory.Memory.write.Goals.{In_ok-insert}
 
@@ -24,3 +24,13 @@ returns-clause-bytes c = rw (← c.self.view_is) (λ at. byte_of (map.from_entri
 
 pub returns-clause-marks : goal.returns-clause-marks
 returns-clause-marks c = rw (← c.self.view_is) (λ at. mark_of (map.from_entries c.self.inside.bytes.entries) (map.from_entries c.insert.new.self.entries) c.args.addr c.args.b at (entered c))
+
+-- what holds anyhow holds of an error
+anyhow : {T E P : Type 0} (r : Result T E) → P → OnErr r P
+anyhow (Ok x) p = tt
+anyhow (Err e) p = p
+
+pub returns-in_err-insert-clause-absent : goal.returns-in_err-insert-clause-absent
+returns-in_err-insert-clause-absent c =
+    anyhow c.from_residual.result
+    (rw (← c.self.view_is) (ap is_some (found c.self.inside.bytes.entries c.args.addr ∙ c.in_err-insert.ensures.absent)))

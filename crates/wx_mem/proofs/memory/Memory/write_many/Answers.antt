@@ -2,7 +2,9 @@ use Rattle.std.proofs.Common.{◌≡◌, ℕ, ◌≤◌, ◌<◌, ◌^◌, List,
 use Rattle.std.specs.Option.{unwrap_or}
 use Rattle.std.specs.Map.{lookup}
 use Rattle.std.specs.FinMap as map
-use Rattle.wx_mem.specs.Memory.{Written, with_bytes, is_among, distance}
+use Rattle.wx_base.specs.Bits.{sub_words}
+use Rattle.wx_base.specs.State.{is_among}
+use Rattle.wx_mem.specs.Memory.{Written, with_bytes}
 use Rattle.wx_mem.proofs.Entries.{same, chosen, marked}
 use Rattle.wx_mem.proofs.Runs.{got_with}
 use Rattle.wx_mem.proofs.memory.Memory.write_many.Goals as goal
@@ -11,25 +13,25 @@ entered : (es fs gs : List (ℕ × ℕ)) (a : ℕ) (bytes : List ℕ) → ((q : 
     → ◌≡◌ {A = Written} (map.from_entries gs) (with_bytes (map.from_entries fs) a bytes) → ◌≡◌ {A = Written} (map.from_entries gs) (with_bytes (map.from_entries es) a bytes)
 entered es fs gs a bytes h e = e ∙ ap (λ m. with_bytes m a bytes) (same es fs h)
 
-byte_of : (m n : Written) (a fill q : ℕ) (bytes : List ℕ) → n ≡ with_bytes m a bytes → length bytes ≤ 64 → a < 2 ^ 32 → q < 2 ^ 32
-    → unwrap_or (map.get n q) fill ≡ cond (is_among a (length bytes) q) (get_or bytes (distance a q) 0) (unwrap_or (map.get m q) fill)
-byte_of m n a fill q bytes e few h k =
+byte_of : (m n : Written) (a fill q : ℕ) (bytes : List ℕ) → n ≡ with_bytes m a bytes → length bytes ≤ 64 → a < 2 ^ 32
+    → unwrap_or (map.get n q) fill ≡ cond (is_among a (length bytes) q) (get_or bytes (sub_words q a) 0) (unwrap_or (map.get m q) fill)
+byte_of m n a fill q bytes e few h =
     ap (λ n. unwrap_or (map.get n q) fill) e
-    ∙ ap (λ o. unwrap_or o fill) (got_with bytes m a q h k (omega arith))
-    ∙ chosen (is_among a (length bytes) q) (get_or bytes (distance a q) 0) fill (map.get m q)
+    ∙ ap (λ o. unwrap_or o fill) (got_with bytes m a q h (omega arith))
+    ∙ chosen (is_among a (length bytes) q) (get_or bytes (sub_words q a) 0) fill (map.get m q)
 
-mark_of : (m n : Written) (a q : ℕ) (bytes : List ℕ) → n ≡ with_bytes m a bytes → length bytes ≤ 64 → a < 2 ^ 32 → q < 2 ^ 32
+mark_of : (m n : Written) (a q : ℕ) (bytes : List ℕ) → n ≡ with_bytes m a bytes → length bytes ≤ 64 → a < 2 ^ 32
     → is_some (map.get n q) ≡ (is_among a (length bytes) q || is_some (map.get m q))
-mark_of m n a q bytes e few h k =
+mark_of m n a q bytes e few h =
     ap (λ n. is_some (map.get n q)) e
-    ∙ ap is_some (got_with bytes m a q h k (omega arith))
-    ∙ marked (is_among a (length bytes) q) (get_or bytes (distance a q) 0) (map.get m q)
+    ∙ ap is_some (got_with bytes m a q h (omega arith))
+    ∙ marked (is_among a (length bytes) q) (get_or bytes (sub_words q a) 0) (map.get m q)
 
 pub returns-clause-written : goal.returns-clause-written
 returns-clause-written c = rw (← c.self.view_is) (entered c.self.inside.bytes.entries c.reserve.new.self.entries c.put_all.new.room.entries c.args.addr c.args.bytes.now c.in_ok-reserve.ensures.entries.2 c.put_all.ensures)
 
 pub returns-clause-bytes : goal.returns-clause-bytes
-returns-clause-bytes c = rw (← c.self.view_is) (λ at k. byte_of (map.from_entries c.self.inside.bytes.entries) (map.from_entries c.put_all.new.room.entries) c.args.addr c.self.inside.fill at c.args.bytes.now (entered c.self.inside.bytes.entries c.reserve.new.self.entries c.put_all.new.room.entries c.args.addr c.args.bytes.now c.in_ok-reserve.ensures.entries.2 c.put_all.ensures) c.requires (omega arith) k)
+returns-clause-bytes c = rw (← c.self.view_is) (λ at. byte_of (map.from_entries c.self.inside.bytes.entries) (map.from_entries c.put_all.new.room.entries) c.args.addr c.self.inside.fill at c.args.bytes.now (entered c.self.inside.bytes.entries c.reserve.new.self.entries c.put_all.new.room.entries c.args.addr c.args.bytes.now c.in_ok-reserve.ensures.entries.2 c.put_all.ensures) c.requires (omega arith))
 
 pub returns-clause-marks : goal.returns-clause-marks
-returns-clause-marks c = rw (← c.self.view_is) (λ at k. mark_of (map.from_entries c.self.inside.bytes.entries) (map.from_entries c.put_all.new.room.entries) c.args.addr at c.args.bytes.now (entered c.self.inside.bytes.entries c.reserve.new.self.entries c.put_all.new.room.entries c.args.addr c.args.bytes.now c.in_ok-reserve.ensures.entries.2 c.put_all.ensures) c.requires (omega arith) k)
+returns-clause-marks c = rw (← c.self.view_is) (λ at. mark_of (map.from_entries c.self.inside.bytes.entries) (map.from_entries c.put_all.new.room.entries) c.args.addr at c.args.bytes.now (entered c.self.inside.bytes.entries c.reserve.new.self.entries c.put_all.new.room.entries c.args.addr c.args.bytes.now c.in_ok-reserve.ensures.entries.2 c.put_all.ensures) c.requires (omega arith))
