@@ -1,0 +1,5 @@
+pub mod Touched
+pub mod Stored
+pub mod Blocks
+pub mod Done
+pub mod Looked

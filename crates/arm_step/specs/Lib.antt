@@ -1,0 +1,4 @@
+pub mod Cpu
+pub mod Ranges
+pub mod Effects
+pub mod Blocks

@@ -1,0 +1,19 @@
+//! One step of the machine: what each instruction does to registers, flags and memory.
+#![tactic(auto)]
+
+mod access;
+mod arithmetic;
+mod block;
+mod cpu;
+mod effects;
+mod execution;
+mod shifter;
+mod step_end;
+#[cfg(test)]
+mod tests;
+mod transfer;
+
+pub use cpu::Cpu;
+pub use execution::step;
+pub use step_end::StepEnd;
+pub use wx_base::Why;
