@@ -1,1 +1,15 @@
+mod AddressParts
+mod Decimals
+mod Distinct
+mod FromStart
+mod HexDigits
+mod Listed
+mod Named
+mod OneName
+mod OperandParts
 mod Ranges
+mod Rotations
+mod Separated
+mod Shapes
+mod Validity
+mod WholeTexts

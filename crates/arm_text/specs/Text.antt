@@ -1,12 +1,13 @@
 -- The text of an instruction at an address: this project's own spelling, one for each instruction, after the assembly
 -- language of the ARM Architecture Reference Manual.
-use Rattle.std.specs.Prelude.{ℕ, ℤ, ◌+◌, ◌*◌, ◌%◌, ◌^◌, nat_lt, Bool, false, ◌==◌, not, ◌&&◌, if◌then◌else◌, List, [], ◌∷◌, ◌++◌, codes}
-use Rattle.std.specs.Int.{cast_unsigned, w32, rotate_left, rotate_right}
+use Rattle.std.specs.Prelude.{ℕ, ℤ, ◌*◌, ◌%◌, ◌^◌, nat_lt, Bool, false, ◌==◌, not, ◌&&◌, if◌then◌else◌, List, [], ◌∷◌, ◌++◌, codes}
+use Rattle.std.specs.Int.{w32, rotate_left, rotate_right}
 use Rattle.std.specs.List.{list_any, range_with_len, flat_map}
 use Rattle.wx_base.specs.Bits.{is_in}
 use Rattle.wx_base.specs.Instruction.{is_compare, is_move}
 use Rattle.wx_base.specs.Decimal.{decimal}
 use Rattle.wx_base.specs.Hexadecimal.{hex_word}
+use Rattle.arm_code.specs.Flows.{offset_target}
 use Rattle.arm_code.specs.declared.insn.Insn.{Insn}
 use Rattle.arm_code.specs.declared.insn.Op.{Op}
 use Rattle.arm_code.specs.declared.insn.Op.TheVariants as op
@@ -157,13 +158,9 @@ block_text suffix load before up wback base list =
     block_name load before up ++ suffix ++ codes " " ++ register_name base ++ where_set wback (codes "!")
     ++ codes ", {" ++ list_text list ++ codes "}"
 
--- where a branch goes, by its own address and its offset, which counts words from the instruction after the next
-abbrev pub target : ℕ → ℤ → ℕ
-target address words = (address + 8 + 4 * cast_unsigned w32 words) % 2 ^ 32
-
 abbrev pub branch_text : ℕ → List ℕ → Bool → ℤ → List ℕ
 branch_text address suffix link words =
-    codes "b" ++ where_set link (codes "l") ++ suffix ++ codes " 0x" ++ hex_word (target address words)
+    codes "b" ++ where_set link (codes "l") ++ suffix ++ codes " 0x" ++ hex_word (offset_target address words)
 
 -- a branch to the address in a register
 abbrev pub exchange_text : List ℕ → Bool → ℕ → List ℕ

@@ -67,7 +67,7 @@ fn rotated(value: u8, rot: u8) -> u32
 }
 
 /// Whether eight bits can stand for a number by a rotation.
-fn has_rotation(n: u32, rot: u8) -> bool
+pub(crate) fn has_rotation(n: u32, rot: u8) -> bool
     ensures { result ≡ has_rotation n rot }
 {
     n.rotate_left(2 * u32::from(rot)) < 256
@@ -75,7 +75,7 @@ fn has_rotation(n: u32, rot: u8) -> bool
 
 /// Whether no smaller rotation stands for the same number.
 #[tactic(auto, using(crate::proofs::Ranges::any_more, crate::proofs::Ranges::any_found))]
-fn is_least_rotation(value: u8, rot: u8) -> bool
+pub(crate) fn is_least_rotation(value: u8, rot: u8) -> bool
     ensures { result ≡ is_least_rotation value rot }
 {
     let n = rotated(value, rot);

@@ -1,10 +1,10 @@
 //! The text of a whole instruction.
 
 ghost use Rattle.std.specs.Prelude.{◌≡◌, ◌++◌, OnOk, OnErr};
-ghost use Rattle.wx_base.specs.Instruction.{is_compare};
+ghost use Rattle.wx_base.specs.Instruction.{is_compare, is_move};
 ghost use Rattle.arm_code.specs.Encoding.{IsValid};
 ghost use Rattle.arm_text.specs.Names.{condition_suffix, block_name};
-ghost use Rattle.arm_text.specs.Text.{mnemonic, alu_registers, alu_text, mul_text, mul_long_text, single_text, half_text, block_text, target, branch_text, exchange_text, svc_text, mov_pc_lr_text, op_text, text_of};
+ghost use Rattle.arm_text.specs.Text.{mnemonic, alu_registers, alu_text, mul_text, mul_long_text, single_text, half_text, block_text, branch_text, exchange_text, svc_text, mov_pc_lr_text, op_text, text_of};
 
 use crate::names::{
     condition_suffix, half_name, mul_long_name, mul_name, opcode_name, single_name,
@@ -13,7 +13,9 @@ use crate::operands::{
     push, push_address, push_decimal, push_further, push_half_address, push_list, push_operand,
     push_register, push_where,
 };
-use arm_code::{HalfKind, HalfOffset, Index, Insn, Offset, Op, Operand};
+use arm_code::{
+    HalfKind, HalfOffset, Index, Insn, Offset, Op, Operand, is_compare, is_move, offset_target,
+};
 use std::alloc::Global;
 use wx_base::{NoMemory, push_word};
 
@@ -27,13 +29,6 @@ fn push_mnemonic(out: &mut Vec<u8>, name: &[u8], flags: bool, suffix: &[u8]) -> 
     push(out, b" ".as_slice())
 }
 
-/// Whether an opcode only compares.
-fn is_compare(code: u8) -> bool
-    ensures { result ≡ is_compare code }
-{
-    code / 4 == 2
-}
-
 /// Appends the registers of data processing.
 fn push_alu_registers(out: &mut Vec<u8>, code: u8, rn: u8, rd: u8) -> Result<(), NoMemory>
     ensures { OnOk result (out.new.items ≡ out.old.items ++ alu_registers code rn rd) }
@@ -42,7 +37,7 @@ fn push_alu_registers(out: &mut Vec<u8>, code: u8, rn: u8, rd: u8) -> Result<(),
         return push_register(out, rn);
     }
     push_register(out, rd)?;
-    if code != 13 && code != 15 {
+    if !is_move(code) {
         push_further(out, rn)?;
     }
     Ok(())
@@ -192,14 +187,6 @@ fn push_block(
     push(out, b"}".as_slice())
 }
 
-/// Where a branch goes.
-fn target(addr: u32, offset: i32) -> u32
-    ensures { result ≡ target addr offset }
-{
-    addr.wrapping_add(8)
-        .wrapping_add(offset.cast_unsigned().wrapping_mul(4))
-}
-
 fn push_branch(
     out: &mut Vec<u8>,
     addr: u32,
@@ -213,7 +200,7 @@ fn push_branch(
     push_where(out, link, b"l".as_slice())?;
     push(out, suffix)?;
     push(out, b" 0x".as_slice())?;
-    push_word(out, target(addr, offset))
+    push_word(out, offset_target(addr, offset))
 }
 
 fn push_exchange(out: &mut Vec<u8>, suffix: &[u8], link: bool, rm: u8) -> Result<(), NoMemory>

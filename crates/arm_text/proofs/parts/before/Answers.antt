@@ -1,0 +1,7 @@
+-- What std says of a suffix, as an equation of texts.
+use Rattle.std.proofs.lemmas.Slice.Eq.{strip_suffix_is}
+use Rattle.std.proofs.lemmas.Bool.Decides.{Decides-eqb}
+use Rattle.arm_text.proofs.parts.before.Goals as goal
+
+pub returns : goal.returns
+returns c = strip_suffix_is Decides-eqb c.args.text.now c.args.back.now _ c.strip_suffix.ensures.cases

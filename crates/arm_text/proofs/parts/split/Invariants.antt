@@ -1,0 +1,6 @@
+-- The separator does not stand in what lies behind.
+use Rattle.std.proofs.Common.{◌≡◌, ℕ, ◌<◌, get_or}
+use Rattle.arm_text.proofs.parts.split.Given as goal
+
+abbrev pub invariant-loop-at : goal.invariant-loop-at
+invariant-loop-at l = (k : ℕ) → k < l.at → get_or l.text k 0 ≡ l.separator → ⊥
