@@ -4,20 +4,21 @@
 #     sh examples/build.sh [FOLDER]
 #
 # Takes GCC for ARM where it is there, else clang with lld. Without either it says so and ends with
-# status 2.
+# status 2. The same compiler makes the same bytes, whatever folder it is run in.
 set -eu
 
 here=$(cd "$(dirname "$0")" && pwd)
 out=${1:-$here}
 source=$here/count.c
+layout=$here/count.ld
 image=$out/count.elf
 common="-Os -marm -ffreestanding -nostdlib -fno-unwind-tables -fno-asynchronous-unwind-tables -fno-ident"
 
 for gcc in arm-none-eabi-gcc arm-linux-gnueabi-gcc; do
     if command -v "$gcc" >/dev/null 2>&1; then
-        "$gcc" -march=armv5te $common -static -Wl,-Ttext=0x8000 -Wl,-n -Wl,--build-id=none \
+        "$gcc" -march=armv5te $common -static -Wl,-n -Wl,--build-id=none -Wl,-T,"$layout" \
             -o "$image" "$source"
-        echo "$image by $gcc"
+        echo "$image by $gcc $("$gcc" -dumpfullversion)"
         exit 0
     fi
 done
@@ -25,7 +26,7 @@ done
 if command -v clang >/dev/null 2>&1 && command -v ld.lld >/dev/null 2>&1; then
     object=$out/count.o
     clang --target=armv5te-none-eabi $common -c -o "$object" "$source"
-    ld.lld -n -Ttext=0x8000 -e _start -o "$image" "$object"
+    ld.lld -n -T "$layout" -o "$image" "$object"
     rm -f "$object"
     echo "$image by clang"
     exit 0

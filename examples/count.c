@@ -1,5 +1,7 @@
 /* Adds up from ten down to one, keeps the sum, and ends by a supervisor call: a small program with a
-   loop, a call, code and data. */
+   loop, a call, code, and data with and without bytes in the file. */
+
+static volatile unsigned greatest = 10;
 
 static volatile unsigned total;
 
@@ -16,7 +18,7 @@ __attribute__((noinline)) unsigned count(unsigned from)
 
 void _start(void)
 {
-    total = count(10);
+    total = count(greatest);
     __asm__ volatile("swi 0");
     __builtin_unreachable();
 }

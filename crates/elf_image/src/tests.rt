@@ -135,19 +135,37 @@ fn reads_a_small_file(rt: HostRuntime) -> Result<(), Fail> {
     Ok(())
 }
 
+// The numbers are those that `readelf`, `objdump` and `nm` print.
 #[test]
 fn reads_a_compiled_program(rt: HostRuntime) -> Result<(), Fail> {
     let image = read_image(rt.alloc(), &count::COUNT)?;
-    assert_eq!(rt; image.entry, 0x8024);
-    assert_eq!(rt; image.segments.as_slice().len(), 3);
-    assert_eq!(rt; image.word_at(0x803c), Some(0xef00_0000));
-    assert_eq!(rt; image.word_at(0x805c), Some(0));
-    assert!(rt; image.is_code(0x8040) && !image.is_code(0x8044));
+    assert_eq!(rt; image.entry, 0x801c);
+    assert_eq!(rt; image.segments.as_slice().len(), 2);
+    let words: [(u32, Option<u32>); 6] = [
+        (0x8000, Some(0xe1a0_3000)),
+        (0x8028, Some(0xebff_fff4)),
+        (0x8034, Some(0xef00_0000)),
+        (0x8040, Some(10)),
+        (0x8044, Some(0)),
+        (0x8045, None),
+    ];
+    for (addr, word) in words {
+        assert_eq!(rt; image.word_at(addr), word);
+    }
+    assert!(rt; image.is_code(0x803f) && !image.is_code(0x8040));
     let symbols = image.symbols.as_slice();
-    assert_eq!(rt; symbols.len(), 6);
-    assert_eq!(rt; find_symbol(symbols, b"_start"), Some(0x8024));
-    assert_eq!(rt; find_symbol(symbols, b"total"), Some(0x805c));
-    assert_eq!(rt; find_symbol(symbols, b"start"), None);
+    assert_eq!(rt; symbols.len(), 13);
     assert_eq!(rt; symbols.iter().filter(|s| s.global).count(), 2);
+    let names: [(&[u8], Option<u32>); 6] = [
+        (b"_start", Some(0x801c)),
+        (b"count", Some(0x8000)),
+        (b"greatest", Some(0x8040)),
+        (b"total", Some(0x8044)),
+        (b"$d", Some(0x8038)),
+        (b"start", None),
+    ];
+    for (name, value) in names {
+        assert_eq!(rt; find_symbol(symbols, name), value);
+    }
     Ok(())
 }
