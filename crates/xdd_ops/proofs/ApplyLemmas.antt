@@ -1,5 +1,5 @@
 -- Two diagrams taken apart and put together again.
-use Rattle.std.proofs.Common.{◌≡◌, ℕ, ◌+◌, ◌<◌, ◌≤◌, Bool, true, false, List, length, slice_get, Some, sym, ◌∙◌, arith, if◌then◌else◌, min, inl, inr, ◌⊎◌, Result, Ok, Err, IfOk}
+use Rattle.std.proofs.Common.{◌≡◌, ℕ, ◌+◌, ◌<◌, ◌≤◌, Bool, true, false, List, length, slice_get, Some, refl, sym, ◌∙◌, arith, if◌then◌else◌, min, inl, inr, ◌⊎◌, Result, Ok, Err, IfOk}
 use Rattle.wx_base.specs.declared.memory.NoMemory.{NoMemory}
 use Rattle.std.proofs.lemmas.Bool.{cases_lt}
 use Rattle.xdd_table.specs.declared.node.Dd.{Dd}
@@ -63,7 +63,10 @@ lower_root nodes a b e g m hit miss hit' miss' is at at' = elim (cases_lt g e) [
   | inr l ↦ let k : e ≡ m = omega arith in inl (record { hit = hit; miss = miss; at = rw k at at })
 ]
 
--- tables and lists that grow twice
+-- tables that stay, tables and lists that grow twice
+pub keeps_self : (nodes : List Node) → Keeps nodes nodes
+keeps_self nodes = record { grows = omega arith; nodes = λ p h. refl; times = λ f p h. refl; begins = λ e p h b. b; events = λ p bound h e. e }
+
 pub keeps_twice : (x y z : List Node) → Keeps x y → Keeps y z → Keeps x z
 keeps_twice x y z k l =
     let g : length x ≤ length y = k.grows in

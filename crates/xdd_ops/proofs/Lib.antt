@@ -1,10 +1,16 @@
+mod AnswerLemmas
 mod ApplyLemmas
 mod DifferenceLemmas
 mod GivenLemmas
+mod GrammarLemmas
 mod GreatestLemmas
+mod LineLemmas
 mod NumberLemmas
 mod PairLemmas
 mod PlaceLemmas
+mod PrintedLemmas
 mod ReadLemmas
 mod RefusalLemmas
 mod TextLemmas
+mod TimesLemmas
+mod WalkLemmas

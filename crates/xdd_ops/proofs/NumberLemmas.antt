@@ -59,11 +59,11 @@ no_zero n small = decimal_by_steps NoZero
 pub zero_first : (n : ℕ) → n < 2 ^ 64 → get_or (decimal n) 0 0 ≡ 48 → n ≡ 0
 zero_first n small e = (no_zero n small).first e
 
-drop_front : (xs ys : List ℕ) → drop (length xs) (xs ++ ys) ≡ ys
+pub drop_front : (xs ys : List ℕ) → drop (length xs) (xs ++ ys) ≡ ys
 drop_front [] ys = refl
 drop_front (x ∷ xs) ys = drop_front xs ys
 
-no_digits : (tail : List ℕ) → leading_digits tail ≡ [] → prefix_len is_ascii_digit tail ≡ 0
+pub no_digits : (tail : List ℕ) → leading_digits tail ≡ [] → prefix_len is_ascii_digit tail ≡ 0
 no_digits tail none = sym (length-prefix_len is_ascii_digit tail) ∙ ap length none
 
 -- a number read as `0`

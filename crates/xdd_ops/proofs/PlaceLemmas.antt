@@ -13,12 +13,12 @@ use Rattle.xdd_ops.specs.Text.{line_number, line_at, lines_of, diagram_text}
 use Rattle.xdd_ops.specs.Read.{line_text, lines_text, IsLineAt, AreLines, HasLines, placed, ArePlaced, CanPlace, IsPlaceOf}
 
 -- a list with one place more
-front : (xs : List ℕ) (p i q : ℕ) → slice_get xs i ≡ Some q → slice_get (xs ++ p ∷ []) i ≡ Some q
+pub front : (xs : List ℕ) (p i q : ℕ) → slice_get xs i ≡ Some q → slice_get (xs ++ p ∷ []) i ≡ Some q
 front [] p i q h = cc
 front (x ∷ xs) p zero q h = h
 front (x ∷ xs) p (suc i) q h = front xs p i q h
 
-last : (xs : List ℕ) (p : ℕ) → slice_get (xs ++ p ∷ []) (length xs) ≡ Some p
+pub last : (xs : List ℕ) (p : ℕ) → slice_get (xs ++ p ∷ []) (length xs) ≡ Some p
 last [] p = refl
 last (x ∷ xs) p = last xs p
 
@@ -33,7 +33,7 @@ get_front [] p k h = absurd (omega arith)
 get_front (x ∷ xs) p zero h = refl
 get_front (x ∷ xs) p (suc k) h = get_front xs p k (omega arith)
 
-length_push : (xs : List ℕ) (p : ℕ) → length (xs ++ p ∷ []) ≡ length xs + 1
+pub length_push : (xs : List ℕ) (p : ℕ) → length (xs ++ p ∷ []) ≡ length xs + 1
 length_push [] p = refl
 length_push (x ∷ xs) p = let e = length_push xs p in omega (arith, e)
 
@@ -140,7 +140,7 @@ placed_at nodes later lines places new i p k all proper keeps counted h is withi
     placed_next nodes lines places all (omega arith) later p k (get_or lines i (Leaf 0)) new proper keeps (rw counted (slice_get-get_or lines i (Leaf 0) h)) is within keys (rw counted stored)
 
 -- a walk's list ends with the place where it began
-walk_end : (nodes : List Node) {p : ℕ} {done after : List ℕ} → Finishes nodes p done after → has done p ≡ false → (init : List ℕ) × (after ≡ init ++ p ∷ [])
+pub walk_end : (nodes : List Node) {p : ℕ} {done after : List ℕ} → Finishes nodes p done after → has done p ≡ false → (init : List ℕ) × (after ≡ init ++ p ∷ [])
 walk_end nodes (met h) none = absurd (false≢true (sym none ∙ h))
 walk_end nodes (leaf {p} {t} {done} h is) none = (done, refl)
 walk_end nodes (branch {p} {e} {hit} {miss} {done} {between} {after} h is w w') none = (after, refl)
@@ -157,24 +157,31 @@ same_lists (x ∷ xs) (y ∷ ys) e h =
     let s : x ≡ y = cc in
     rw s (ap (λ l. y ∷ l) (same_lists xs ys (omega arith) (λ k l. h (suc k) (omega arith))))
 
+-- places that each stand once
+pub record AreApart (places : List ℕ) : Type 0 where
+  pub each : (i j p : ℕ) → slice_get places i ≡ Some p → slice_get places j ≡ Some p → i ≡ j
+
+-- equal places stand at one position
+pub one_index : (places : List ℕ) → AreApart places → (j k : ℕ) → j < length places → k < length places → get_or places j 0 ≡ get_or places k 0 → j ≡ k
+one_index places apart j k h h' e = apart.each j k (get_or places k 0) (slice_get-get_or places j 0 h ∙ ap Some e) (slice_get-get_or places k 0 h')
+
 -- the number of a line is told by its place
-module _ (nodes lines : List Node) (places : List ℕ) (all : ArePlaced nodes lines places) where
+module _ (places : List ℕ) (apart : AreApart places) where
   other : (j k : ℕ) (b : Bool) → j < k → k < length places → eqb (get_or places k 0) (get_or places j 0) ≡ b → b ≡ false
   other j k true l h e =
       let s : get_or places k 0 ≡ get_or places j 0 = grind (arith, nat_tests) in
-      let one : slice_get places j ≡ Some (get_or places k 0) = rw s (slice_get-get_or places j 0 (omega arith)) in
-      let same = all.apart j k (get_or places k 0) one (slice_get-get_or places k 0 h) in
+      let same = one_index places apart j k (omega arith) h (sym s) in
       absurd (omega arith)
   other j k false l h e = refl
 
-  number_of : (k : ℕ) → k < length places → line_number places (get_or places k 0) ≡ k
+  pub number_of : (k : ℕ) → k < length places → line_number places (get_or places k 0) ≡ k
   number_of k h =
-      let q : ℕ = get_or places k 0 in
       let e : position_or_len (eqb (get_or places k 0)) places ≡ k = position_or_len_is (eqb (get_or places k 0)) places k 0 (omega arith)
       (λ j l. other j k (eqb (get_or places k 0) (get_or places j 0)) l h refl) (λ _. itself (get_or places k 0)) in
       let t : nat_lt k (length places) ≡ true = grind (arith, nat_tests) in
       rw (e, t) refl
 
+module _ (nodes lines : List Node) (places : List ℕ) (all : ArePlaced nodes lines places) where
   line_same : AreLines lines → length places ≡ length lines → (i p : ℕ) (x : Node) → slice_get places i ≡ Some p → slice_get lines i ≡ Some x → line_at places (slice_get nodes p) ≡ line_text x
   line_same proper count i p x at line = rw (all.each i p x at line) (by_node x (proper.each i x line))
     where
@@ -182,11 +189,11 @@ module _ (nodes lines : List Node) (places : List ℕ) (all : ArePlaced nodes li
       by_node (Leaf t) w = refl
       by_node (Branch e hit miss) w =
           let i_in = slice_get_within places i p at in
-          let a = number_of hit.place (omega (arith, w.hit_earlier)) in
-          let b = number_of miss.place (omega (arith, w.miss_earlier)) in
+          let a = number_of places (record { each = all.apart }) hit.place (omega (arith, w.hit_earlier)) in
+          let b = number_of places (record { each = all.apart }) miss.place (omega (arith, w.miss_earlier)) in
           rw (a, b) refl
 
-concat_same : (f : ℕ → List ℕ) (g : Node → List ℕ) (ps : List ℕ) (xs : List Node) → length ps ≡ length xs
+pub concat_same : (f : ℕ → List ℕ) (g : Node → List ℕ) (ps : List ℕ) (xs : List Node) → length ps ≡ length xs
     → ((i p : ℕ) (x : Node) → slice_get ps i ≡ Some p → slice_get xs i ≡ Some x → f p ≡ g x) → concat (map f ps) ≡ concat (map g xs)
 concat_same f g [] [] e h = refl
 concat_same f g [] (x ∷ xs) e h = absurd (omega arith)
@@ -196,6 +203,9 @@ concat_same f g (p ∷ ps) (x ∷ xs) e h =
     let more : concat (map f ps) ≡ concat (map g xs) = concat_same f g ps xs (omega arith) (λ i q y a b. h (suc i) q y a b) in
     rw (first, more) refl
 
+pub lines_same : (nodes lines : List Node) (places : List ℕ) → ArePlaced nodes lines places → AreLines lines → length places ≡ length lines → lines_of nodes places places ≡ lines_text lines
+lines_same nodes lines places all proper count = concat_same (λ p. line_at places (slice_get nodes p)) line_text places lines count (line_same nodes lines places all proper count)
+
 -- lines in the order of the walk are the text of the diagram of the last
 module _ (nodes lines : List Node) (places : List ℕ) (all : ArePlaced nodes lines places) (bytes : List ℕ) (has_lines : HasLines bytes lines) (count : length places ≡ length lines) where
   root_at : slice_get places (length places - 1) ≡ Some (get_or places (length places - 1) 0)
@@ -204,12 +214,12 @@ module _ (nodes lines : List Node) (places : List ℕ) (all : ArePlaced nodes li
   pub root_within : get_or places (length places - 1) 0 < length nodes
   root_within = all.within (length places - 1) (get_or places (length places - 1) 0) root_at
 
-  text_of_lines : bytes ≡ diagram_text nodes places
+  pub text_of_lines : bytes ≡ diagram_text nodes places
   text_of_lines =
-      let t : lines_of nodes places places ≡ lines_text lines = concat_same (λ p. line_at places (slice_get nodes p)) line_text places lines count (line_same nodes lines places all has_lines.proper count) in
+      let t = lines_same nodes lines places all has_lines.proper count in
       rw (t, count) has_lines.whole
 
-  walk_same : (order : List ℕ) → Finishes nodes (get_or places (length places - 1) 0) [] order → ListsBelow nodes (get_or places (length places - 1) 0) order
+  pub walk_same : (order : List ℕ) → Finishes nodes (get_or places (length places - 1) 0) [] order → ListsBelow nodes (get_or places (length places - 1) 0) order
       → ((k : ℕ) → k < length places → slice_get order k ≡ slice_get places k) → order ≡ places
   walk_same order walk below same =
       let w = walk_end nodes walk refl in
@@ -218,8 +228,3 @@ module _ (nodes lines : List Node) (places : List ℕ) (all : ArePlaced nodes li
       let e : length places - 1 ≡ length w.0 = below.once (length places - 1) (length w.0) (get_or places (length places - 1) 0) at_root at_end in
       let n : length order ≡ length w.0 + 1 = ap length w.1 ∙ length_push w.0 (get_or places (length places - 1) 0) in
       same_lists order places (omega (arith, has_lines.some)) same
-
-  pub text_read : (order : List ℕ) → Finishes nodes (get_or places (length places - 1) 0) [] order → ListsBelow nodes (get_or places (length places - 1) 0) order
-      → ((k : ℕ) → k < length places → slice_get order k ≡ slice_get places k)
-      → (found : List ℕ) × Finishes nodes (get_or places (length places - 1) 0) [] found × (bytes ≡ diagram_text nodes found)
-  text_read order walk below same = (places, rw (walk_same order walk below same) at walk, text_of_lines)

@@ -18,7 +18,7 @@ use Rattle.wx_base.specs.Cursor.{Reading, rest, stepped, leading_digits, number_
 use Rattle.xdd_table.specs.declared.node.Node.{Node}
 use Rattle.xdd_table.specs.declared.node.Node.TheVariants.{Leaf, Branch}
 use Rattle.xdd_table.specs.Diagram.{BeginsAfter}
-use Rattle.xdd_ops.specs.Refusal.{IsFront, HasNoCount, IsSyntaxPlace, IsLineRefusal, IsCountedRefusal}
+use Rattle.xdd_ops.specs.Refusal.{IsFront, BeginsWithLine, LacksLine, GoesOn, HasNoCount, IsSyntaxPlace, IsLineRefusal, IsCountedRefusal}
 use Rattle.xdd_ops.specs.declared.diagram_error.DiagramError.{DiagramError}
 use Rattle.xdd_ops.specs.declared.diagram_error.DiagramError.TheVariants.{Syntax, NotReduced, Order, NoMemory}
 use Rattle.xdd_ops.specs.Read.{line_text, lines_text, count_line, IsLineAt, AreLines, HasLines}
@@ -111,7 +111,7 @@ number_text a o b r same h value after = number_read a b r h (rw same at value) 
 pub zero_text : (x y : List ℕ) → x ≡ (48 ∷ []) ++ y → x ≡ decimal 0 ++ y
 zero_text x y e = rw (decimal_digit 0 (lit< tt)) e
 
-append_none : (xs : List ℕ) → xs ++ [] ≡ xs
+pub append_none : (xs : List ℕ) → xs ++ [] ≡ xs
 append_none [] = refl
 append_none (x ∷ xs) = ap (λ l. x ∷ l) (append_none xs)
 
@@ -124,7 +124,7 @@ pub text_more : (lines : List Node) (x : Node) (s a b : List ℕ) → s ≡ line
 text_more lines x s a b e e' = rw (lines_push lines x) (join s a b (lines_text lines) (line_text x) e e')
 
 -- the front of a longer list
-slice_get-front : (xs ys : List Node) (p : ℕ) → p < length xs → slice_get (xs ++ ys) p ≡ slice_get xs p
+pub slice_get-front : (xs ys : List Node) (p : ℕ) → p < length xs → slice_get (xs ++ ys) p ≡ slice_get xs p
 slice_get-front [] ys p h = absurd (omega arith)
 slice_get-front (x ∷ xs) ys zero h = refl
 slice_get-front (x ∷ xs) ys (suc p) h = slice_get-front xs ys p (omega arith)
@@ -185,9 +185,10 @@ leaf_text (Some x) a o b e w = rw (w.2) (join a o b (codes "leaf ") (decimal w.0
 
 -- the whole text of some lines
 pub whole_text : (a b c : Reading) (n : ℕ) (lines : List Node) → a.place ≡ 0 → c.bytes ≡ a.bytes → rest a ≡ count_line n ++ rest b → rest b ≡ lines_text lines ++ rest c → c.place ≡ length c.bytes
-    → 0 < n → length lines ≡ n → AreLines lines → HasLines a.bytes lines
-whole_text a b c n lines start same head tail end some counted proper = record {
+    → 0 < n → n < 2 ^ 64 → length lines ≡ n → AreLines lines → HasLines a.bytes lines
+whole_text a b c n lines start same head tail end some fits counted proper = record {
   some = omega arith;
+  fits = omega arith;
   proper = proper;
   whole =
       let z : rest c ≡ [] = rw end (drop-length c.bytes) in
@@ -203,42 +204,51 @@ tried P (Ok m) n e h is = let k : m ≡ n = h.1 in let s : e ≡ m = cc in s ∙
 tried P (Err x) n e h is = cc
 
 -- the text up to a place
-pub front_of : (a b : Reading) (n at : ℕ) (lines : List Node) → a.place ≡ 0 → b.bytes ≡ a.bytes → rest a ≡ count_line n ++ rest b → 0 < n → length lines ≤ n → AreLines lines
-    → rest b ≡ lines_text lines ++ drop at a.bytes → at ≤ length a.bytes → IsFront a.bytes at
-front_of a b n at lines start same head some most proper text within =
+pub front_of : (a b : Reading) (n at : ℕ) (lines : List Node) → a.place ≡ 0 → b.bytes ≡ a.bytes → rest a ≡ count_line n ++ rest b → 0 < n → n < 2 ^ 64 → AreLines lines
+    → rest b ≡ lines_text lines ++ drop at a.bytes → at ≤ length a.bytes → IsFront a.bytes n at lines
+front_of a b n at lines start same head some fits proper text within =
     let w : rest a ≡ (count_line n ++ lines_text lines) ++ drop at a.bytes = join (rest a) (rest b) (drop at a.bytes) (count_line n) (lines_text lines) head text in
     let f : rest a ≡ a.bytes = rw start refl in
     let front : a.bytes ≡ (count_line n ++ lines_text lines) ++ drop at a.bytes = sym f ∙ w in
     let l : length a.bytes ≡ length (count_line n ++ lines_text lines) + length (drop at a.bytes) = ap length front ∙ length-append (count_line n ++ lines_text lines) (drop at a.bytes) in
     let m = length-drop at a.bytes in
     record {
-      count = n;
       some = some;
-      lines = lines;
-      most = most;
+      fits = fits;
       proper = proper;
-      front = front;
+      text = front;
       ends = omega (arith, l, m, within);
     }
 
 -- what reading the announced lines refuses, in the whole text
-pub refused_of : (a b : Reading) (n : ℕ) (bytes : List ℕ) (e : DiagramError) → a.place ≡ 0 → a.bytes ≡ bytes → b.bytes ≡ a.bytes → rest a ≡ count_line n ++ rest b → 0 < n
+pub refused_of : (a b : Reading) (n : ℕ) (bytes : List ℕ) (e : DiagramError) → a.place ≡ 0 → a.bytes ≡ bytes → b.bytes ≡ a.bytes → rest a ≡ count_line n ++ rest b → 0 < n → n < 2 ^ 64
     → IsCountedRefusal b n e → IsLineRefusal bytes e
-refused_of a b n bytes (Syntax at) start from same head some h =
+refused_of a b n bytes (Syntax at) start from same head some fits h =
     let d : drop at b.bytes ≡ drop at a.bytes = ap (drop at) same in
     let w = rw same at h.within in
-    inr (rw (← from) (front_of a b n at h.lines start same head some (omega (arith, h.fewer)) h.proper (h.text ∙ ap (λ l. lines_text h.lines ++ l) d) w))
-refused_of a b n bytes (NotReduced line) start from same head some h = h
-refused_of a b n bytes (Order line) start from same head some h = h
-refused_of a b n bytes NoMemory start from same head some h = tt
+    let none : BeginsWithLine h.lines (drop at a.bytes) → ⊥ = rw same at h.none in
+    let lacks : LacksLine a.bytes at = record {
+      count = n;
+      lines = h.lines;
+      front = front_of a b n at h.lines start same head some fits h.proper (h.text ∙ ap (λ l. lines_text h.lines ++ l) d) w;
+      fewer = h.fewer;
+      none = none;
+    } in
+    inr (inl (rw (← from) lacks))
+refused_of a b n bytes (NotReduced line) start from same head some fits h = h
+refused_of a b n bytes (Order line) start from same head some fits h = h
+refused_of a b n bytes NoMemory start from same head some fits h = tt
 
-pub end_of : (a b c : Reading) (n at : ℕ) (bytes : List ℕ) (lines : List Node) → a.place ≡ 0 → a.bytes ≡ bytes → b.bytes ≡ a.bytes → c.bytes ≡ b.bytes → rest a ≡ count_line n ++ rest b → 0 < n → length lines ≡ n
-    → AreLines lines → rest b ≡ lines_text lines ++ rest c → at ≡ c.place → at ≤ length c.bytes → IsSyntaxPlace bytes at
-end_of a b c n at bytes lines start from same same' head some count proper text place within =
+pub end_of : (a b c : Reading) (n at : ℕ) (bytes : List ℕ) (lines : List Node) → a.place ≡ 0 → a.bytes ≡ bytes → b.bytes ≡ a.bytes → c.bytes ≡ b.bytes → rest a ≡ count_line n ++ rest b → 0 < n → n < 2 ^ 64
+    → length lines ≡ n → AreLines lines → rest b ≡ lines_text lines ++ rest c → at ≡ c.place → at ≤ length c.bytes → (c.place ≡ length c.bytes → ⊥) → IsSyntaxPlace bytes at
+end_of a b c n at bytes lines start from same same' head some fits count proper text place within more =
     let e : c.bytes ≡ a.bytes = same' ∙ same in
     let d : rest c ≡ drop at a.bytes = rw (place, ← e) refl in
     let w = rw e at within in
-    inr (rw (← from) (front_of a b n at lines start same head some (omega arith) proper (text ∙ ap (λ l. lines_text lines ++ l) d) w))
+    let z = rw e at more in
+    let front : IsFront a.bytes n at lines = front_of a b n at lines start same head some fits proper (text ∙ ap (λ l. lines_text lines ++ l) d) w in
+    let on : GoesOn a.bytes at = record { lines = lines; front = rw count front; more = omega (arith, z, w) } in
+    inr (inr (rw (← from) on))
 
 pub no_count : (a : Reading) (bytes : List ℕ) → a.place ≡ 0 → a.bytes ≡ bytes → ((n : ℕ) (tail : List ℕ) → 0 < n → n < 2 ^ 64 → rest a ≡ count_line n ++ tail → ⊥) → HasNoCount bytes
 no_count a bytes start from none = record {

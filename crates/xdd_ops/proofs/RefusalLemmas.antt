@@ -10,7 +10,8 @@ use Rattle.xdd_table.specs.declared.node.Node.TheVariants.{Leaf, Branch}
 use Rattle.xdd_table.specs.Diagram.{Keeps, IsTable, IsBranchAt}
 use Rattle.xdd_ops.specs.Read.{IsLineAt, AreLines, placed, ArePlaced, IsPlaceOf}
 use Rattle.xdd_ops.specs.Refusal.{IsUnreduced, alike, repeated, IsFirstUnreduced}
-use Rattle.xdd_ops.proofs.PlaceLemmas.{spot, listed}
+use Rattle.xdd_ops.proofs.LineLemmas.{dd_same, hit_place, miss_place}
+use Rattle.xdd_ops.proofs.PlaceLemmas.{spot, listed, one_index}
 
 -- a place that was taken at another position stood there before
 record Known (places : List ℕ) (p : ℕ) : Type 0 where
@@ -29,22 +30,10 @@ known_by false places new p k position e is at same other =
       | inr a ↦ absurd (other a.0)
     ]
 
--- the places of a branch
-abbrev hit_place : Node → ℕ
-hit_place (Leaf t) = 0
-hit_place (Branch e hit miss) = hit.place
-
-abbrev miss_place : Node → ℕ
-miss_place (Leaf t) = 0
-miss_place (Branch e hit miss) = miss.place
-
-dd_of : (a b : Dd) → a.place ≡ b.place → a ≡ b
-dd_of a b e = ap (λ x. record { place = x }) e
-
 module _ (nodes lines : List Node) (places : List ℕ) (all : ArePlaced nodes lines places) (proper : AreLines lines) where
   -- lines of one place are one
   one_line : (j k : ℕ) → j < length places → k < length places → get_or places j 0 ≡ get_or places k 0 → j ≡ k
-  one_line j k h h' e = all.apart j k (get_or places k 0) (slice_get-get_or places j 0 h ∙ ap Some e) (slice_get-get_or places k 0 h')
+  one_line = one_index places (record { each = all.apart })
 
   same_line : (j : ℕ) (x y : Node) → IsLineAt lines (length places) x → j < length places → IsLineAt lines j y → placed places y ≡ placed places x → y ≡ x
   same_line j (Leaf t) (Leaf u) w h v e = e
@@ -54,8 +43,8 @@ module _ (nodes lines : List Node) (places : List ℕ) (all : ArePlaced nodes li
       let event : e' ≡ e = cc in
       let hits : get_or places hit'.place 0 ≡ get_or places hit.place 0 = ap hit_place is in
       let misses : get_or places miss'.place 0 ≡ get_or places miss.place 0 = ap miss_place is in
-      let a = dd_of hit' hit (one_line hit'.place hit.place (omega (arith, v.hit_earlier)) w.hit_earlier hits) in
-      let b = dd_of miss' miss (one_line miss'.place miss.place (omega (arith, v.miss_earlier)) w.miss_earlier misses) in
+      let a = dd_same hit' hit (one_line hit'.place hit.place (omega (arith, v.hit_earlier)) w.hit_earlier hits) in
+      let b = dd_same miss' miss (one_line miss'.place miss.place (omega (arith, v.miss_earlier)) w.miss_earlier misses) in
       rw (event, a, b) refl
 
   module _ (later : List Node) (keeps : Keeps nodes later) (i p : ℕ) (count : length places ≡ i) (h : i < length lines) (known : Known places p) where
@@ -83,7 +72,7 @@ module _ (nodes lines : List Node) (places : List ℕ) (all : ArePlaced nodes li
         → IsLineAt lines (length places) (Branch e hit miss) → IsPlaceOf later places (Branch e hit miss) p → IsUnreduced lines i
     by_branch e hit miss true t at w is =
         let same : get_or places hit.place 0 ≡ get_or places miss.place 0 = grind (arith, nat_tests) in
-        let d = dd_of miss hit (sym (one_line hit.place miss.place w.hit_earlier w.miss_earlier same)) in
+        let d = dd_same miss hit (sym (one_line hit.place miss.place w.hit_earlier w.miss_earlier same)) in
         alike {i = i} {e = e} {d = hit} (at ∙ ap (λ m. Some (Branch e hit m)) d)
     by_branch e hit miss false t at w is =
         let other : get_or places hit.place 0 ≢ get_or places miss.place 0 = (λ s. let t' : eqb (get_or places hit.place 0) (get_or places miss.place 0) ≡ true = grind (arith, nat_tests) in false≢true (sym t ∙ t')) in

@@ -1,5 +1,6 @@
 pub mod Cofactors
 pub mod Given
+pub mod Laws
 pub mod Pairs
 pub mod Read
 pub mod Refusal

@@ -40,6 +40,7 @@ pub record AreLines (lines : List Node) : Type 0 where
 -- the text announces these lines and has them, at least one, and nothing behind them
 pub record HasLines (bytes : List ℕ) (lines : List Node) : Type 0 where
   pub some : 0 < length lines
+  pub fits : length lines < 2 ^ 64
   pub proper : AreLines lines
   pub whole : bytes ≡ count_line (length lines) ++ lines_text lines
 

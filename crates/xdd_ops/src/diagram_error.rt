@@ -11,7 +11,8 @@ pub enum DiagramError {
     /// The bytes are not `dd N` and N lines.
     #[error("no diagram from byte {at} on")]
     Syntax {
-        /// The place of the first byte of the first line that is none, or of the bytes behind the last line.
+        /// How many bytes stand before the fault: before the first line that is none, or before what stands behind the last line.
+        /// A text that ends too early has its fault at its end.
         at: u64,
     },
     /// A line repeats an earlier one, or both its branches are one.

@@ -5,6 +5,7 @@ mod cofactors;
 mod diagram_error;
 mod difference;
 mod given;
+mod laws;
 mod leaves;
 mod lines;
 mod pairs;
@@ -16,6 +17,7 @@ mod tests;
 
 pub use diagram_error::DiagramError;
 pub use given::{fix, rise};
+pub use laws::{a_text_stays, a_text_tells_times, one_text_a_diagram};
 pub use leaves::greatest;
 pub use pairs::{Pairs, zip};
 pub use pointwise::{max, minus, plus};

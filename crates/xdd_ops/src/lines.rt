@@ -1,9 +1,9 @@
-ghost use Rattle.std.specs.Prelude.{◌≡◌, ℕ, ◌<◌, ◌^◌, List, [], ◌++◌, codes, length, IfOk, IfErr, IfSome, IsSome};
+ghost use Rattle.std.specs.Prelude.{◌≡◌, ℕ, ◌<◌, ◌^◌, List, [], ◌++◌, codes, length, IfOk, IfErr, IfSome, IfNone, IsSome};
 ghost use Rattle.std.specs.Fmt.{decimal};
 ghost use Rattle.wx_base.specs.Cursor.{rest, leading_digits};
 ghost use Rattle.xdd_table.specs.Diagram.{BeginsAfter};
 ghost use Rattle.xdd_ops.specs.Read.{line_text, lines_text, count_line, IsLineAt, AreLines, HasLines};
-ghost use Rattle.xdd_ops.specs.Refusal.{IsLineRefusal, IsCountedRefusal};
+ghost use Rattle.xdd_ops.specs.Refusal.{BeginsWithLine, IsLineRefusal, IsCountedRefusal};
 
 use crate::diagram_error::DiagramError;
 use std::alloc::Global;
@@ -12,7 +12,7 @@ use xdd_table::{Dd, Node};
 
 /// The lines of a text, whose places are the numbers of lines.
 ///
-/// `Syntax` tells where the first line that is none begins, or where bytes behind the last do.
+/// `Syntax` tells where the first line that is none begins or should begin, or where bytes behind the last do.
 pub fn read_lines(alloc: Global, bytes: &[u8]) -> Result<Vec<Node>, DiagramError>
     ensures lines { IfOk result (λ lines. HasLines bytes.now lines.items) }
     ensures refused { IfErr result (λ e. IsLineRefusal bytes.now e) }
@@ -69,10 +69,11 @@ fn read_count(cursor: &mut Cursor<'_>) -> Option<u64>
     Some(count)
 }
 
-/// The line that stands behind `lines`.
+/// The line that stands here, if it may stand behind `lines`.
 fn read_line(cursor: &mut Cursor<'_>, lines: &[Node]) -> Option<Node>
     ensures line { IfSome result (λ x. IsLineAt lines.now (length lines.now) x) }
     ensures text { IfSome result (λ x. rest cursor.old ≡ line_text x ++ rest cursor.new) }
+    ensures none { length lines.now < 2 ^ 64 → IfNone result (BeginsWithLine lines.now (rest cursor.old) → ⊥) }
     ensures bytes { cursor.new.bytes ≡ cursor.old.bytes }
 {
     if cursor.expect(b"leaf ") {

@@ -1,6 +1,6 @@
-ghost use Rattle.std.specs.Prelude.{◌≡◌, ℕ, ◌<◌, List, [], ◌++◌, length, slice_get, slice_index, EachIndex, OnOk, OnErr, IfOk};
-ghost use Rattle.xdd_table.specs.Order.{Finishes};
-ghost use Rattle.xdd_ops.specs.Text.{leaf_line, branch_line, line_at, lines_of, diagram_text};
+ghost use Rattle.std.specs.Prelude.{◌≡◌, ℕ, ◌<◌, List, ◌++◌, length, slice_get, slice_index, EachIndex, OnOk, OnErr, IfOk, IfSome};
+ghost use Rattle.xdd_table.specs.Diagram.{IsTable};
+ghost use Rattle.xdd_ops.specs.Text.{leaf_line, branch_line, line_at, lines_of, FitsNode, IsTextOf};
 
 use std::alloc::Global;
 use wx_base::{NoMemory, push_number};
@@ -12,7 +12,7 @@ use xdd_table::{Dd, Node, Order, Table};
 /// misses. The lines are the nodes as a walk finishes them that goes to the hit branch first and to each node once.
 pub fn print_diagram(alloc: Global, out: &mut Vec<u8>, table: &Table, d: Dd) -> Result<(), NoMemory>
     requires { d.place < length table.now }
-    ensures written { OnOk result ((places : List ℕ) × Finishes table.now d.place [] places × (out.new.items ≡ out.old.items ++ diagram_text table.now places)) }
+    ensures written { OnOk result ((text : List ℕ) × IsTextOf table.now d.place text × (out.new.items ≡ out.old.items ++ text)) }
     ensures kept { OnErr result (out.new.items ≡ out.old.items) }
 {
     let text = text_of(alloc, table, d)?;
@@ -23,7 +23,7 @@ pub fn print_diagram(alloc: Global, out: &mut Vec<u8>, table: &Table, d: Dd) -> 
 /// The diagram's text.
 fn text_of(alloc: Global, table: &Table, d: Dd) -> Result<Vec<u8>, NoMemory>
     requires { d.place < length table.now }
-    ensures { IfOk result (λ text. (places : List ℕ) × Finishes table.now d.place [] places × (text.items ≡ diagram_text table.now places)) }
+    ensures { IfOk result (λ text. IsTextOf table.now d.place text.items) }
 {
     let order = table.order(d)?;
     let mut text = Vec::from_slice(alloc, b"dd ")?;
@@ -40,7 +40,9 @@ fn push_lines(
     order: &Order,
 ) -> Result<(), NoMemory>
     requires { EachIndex order.now (λ k. slice_index order.now k < length table.now) }
-    ensures { OnOk result (text.new.items ≡ text.old.items ++ lines_of table.now order.now order.now) }
+    ensures lines { OnOk result (text.new.items ≡ text.old.items ++ lines_of table.now order.now order.now) }
+    ensures table { OnOk result (0 < length order.now → IsTable table.now) }
+    ensures fit { OnOk result ((i : ℕ) → i < length order.now → IfSome (slice_get table.now (slice_index order.now i)) FitsNode) }
 {
     for place in order.places() {
         push_line(alloc, text, table, order, Dd { place: *place })?;
@@ -56,7 +58,9 @@ fn push_line(
     d: Dd,
 ) -> Result<(), NoMemory>
     requires { d.place < length table.now }
-    ensures { OnOk result (text.new.items ≡ text.old.items ++ line_at order.now (slice_get table.now d.place)) }
+    ensures line { OnOk result (text.new.items ≡ text.old.items ++ line_at order.now (slice_get table.now d.place)) }
+    ensures table { IsTable table.now }
+    ensures fits { IfSome (slice_get table.now d.place) FitsNode }
 {
     match table.node(d) {
         Node::Leaf { time } => push_leaf(alloc, text, time),

@@ -1,9 +1,8 @@
-ghost use Rattle.std.specs.Prelude.{◌≡◌, ◌≢◌, ℕ, ◌<◌, List, [], length, slice_get, IfOk, IfErr, IfSome, IfNone};
+ghost use Rattle.std.specs.Prelude.{◌≡◌, ◌≢◌, ℕ, ◌<◌, length, slice_get, IfOk, IfErr, IfSome, IfNone};
 ghost use Rattle.xdd_table.specs.Diagram.{Keeps, IsTable};
-ghost use Rattle.xdd_table.specs.Order.{Finishes};
-ghost use Rattle.xdd_ops.specs.Text.{diagram_text};
+ghost use Rattle.xdd_ops.specs.Text.{IsTextOf};
 ghost use Rattle.xdd_ops.specs.Read.{AreLines, ArePlaced, CanPlace, IsPlaceOf};
-ghost use Rattle.xdd_ops.specs.Refusal.{IsRefusal, IsPlaceRefusal};
+ghost use Rattle.xdd_ops.specs.Refusal.{IsRefusal, IsPlaceRefusal, AreReduced, IsDiagramText, IsReadAs, IsRefusedFor};
 
 use crate::diagram_error::DiagramError;
 use crate::lines::read_lines;
@@ -12,14 +11,19 @@ use std::alloc::Global;
 use wx_base::NoMemory;
 use xdd_table::{Dd, Node, Table};
 
-/// The diagram whose text the bytes are, as `print_diagram` writes it.
+/// The diagram whose text the bytes are, as `print_diagram` writes it. What was printed of a place of the table is read as it.
 ///
 /// `Syntax` where they are not `dd N` and N lines, then `NotReduced` where a line repeats an earlier one or has one branch twice,
-/// then `Order` where a line is not the one that the walk finishes there. The nodes of lines that were read stay in the table.
+/// then `Order` where a line is not the one that the walk finishes there, each at the first such place. The nodes of lines that
+/// were read stay in the table.
 pub fn read_diagram(alloc: Global, table: &mut Table, bytes: &[u8]) -> Result<Dd, DiagramError>
-    ensures read { IfOk result (λ d. (places : List ℕ) × Finishes table.new d.place [] places × (bytes.now ≡ diagram_text table.new places)) }
+    ensures read { IfOk result (λ d. IsTextOf table.new d.place bytes.now) }
     ensures within { IfOk result (λ d. d.place < length table.new) }
-    ensures refused { IfErr result (λ e. IsRefusal table.new bytes.now e) }
+    ensures grammar { IfOk result (λ d. IsDiagramText bytes.now) }
+    ensures taken { IsDiagramText bytes.now → IfErr result (λ e. e ≡ DiagramError.NoMemory) }
+    ensures again { (p : ℕ) → IsTextOf table.old p bytes.now → IsReadAs result p }
+    ensures refused { IfErr result (λ e. IsRefusal bytes.now e) }
+    ensures due { (e : DiagramError) → IsRefusal bytes.now e → e ≢ DiagramError.NoMemory → IsRefusedFor result e }
     ensures kept { Keeps table.old table.new }
 {
     let lines = read_lines(alloc, bytes)?;
@@ -46,6 +50,8 @@ fn place_lines(
     requires { AreLines lines.now }
     ensures placed { IfOk result (λ places. ArePlaced table.new lines.now places.keys) }
     ensures count { IfOk result (λ places. length places.keys ≡ length lines.now) }
+    ensures reduced { IfOk result (λ places. AreReduced lines.now) }
+    ensures table { IfOk result (λ places. 0 < length lines.now → IsTable table.new) }
     ensures refused { IfErr result (λ e. IsPlaceRefusal lines.now e) }
     ensures kept { Keeps table.old table.new }
 {
