@@ -1,0 +1,11 @@
+pub mod Counts
+pub mod Gathered
+pub mod Walked
+pub mod Names
+pub mod Least
+pub mod Worst
+pub mod Ranges
+pub mod Elements
+pub mod Machines
+pub mod Unique
+pub mod Due

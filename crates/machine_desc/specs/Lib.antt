@@ -1,0 +1,7 @@
+pub mod Keys
+pub mod Faults
+pub mod Document
+pub mod Values
+pub mod Meeting
+pub mod Causes
+pub mod Laws
