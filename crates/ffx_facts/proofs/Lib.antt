@@ -1,0 +1,12 @@
+pub mod ScannerLemmas
+pub mod Endings
+pub mod Live
+pub mod Fronts
+pub mod Numerals
+pub mod Judged
+pub mod Ordered
+pub mod Exact
+pub mod Spelled
+pub mod Split
+pub mod Documents
+pub mod Nested

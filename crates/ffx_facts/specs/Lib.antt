@@ -1,0 +1,12 @@
+pub mod Pieces
+pub mod Machine
+pub mod Scan
+pub mod Values
+pub mod File
+pub mod Refusals
+pub mod Faults
+pub mod Order
+pub mod Memory
+pub mod Causes
+pub mod Grammar
+pub mod Document
