@@ -1,6 +1,6 @@
 //! Loads and stores of blocks of registers. ARM Architecture Reference Manual, "Load and Store Multiple".
 
-ghost use Rattle.std.specs.Prelude.{◌≡◌, ◌≤◌, ◌+◌, ◌++◌, ◌<◌, false, IfOk, OnOk, OnErr, if◌then◌else◌, length};
+ghost use Rattle.std.specs.Prelude.{◌≡◌, ◌≤◌, ◌+◌, ◌++◌, ◌<◌, false, true, IfOk, OnOk, OnErr, if◌then◌else◌, length};
 ghost use Rattle.arrayvec.specs.ArrayVec.{array_vec_len};
 ghost use Rattle.wx_base.specs.Bits.{is_in, add_words};
 ghost use Rattle.wx_base.specs.declared.image.Image.{Image};
@@ -171,6 +171,7 @@ pub(crate) fn block(
     ensures place { IfOk result (λ end. StopsAt (registers_of cpu.old.regs pc) end) }
     ensures starved { OnErr result (GoesOn (block_effect machine.now image.now (state_of image.now cpu.old) t.now)) }
     ensures storing { OnErr result (t.now.load ≡ false) }
+    ensures quiet { t.now.load ≡ true → cpu.new.memory ≡ cpu.old.memory }
     ensures refused { OnErr result (cpu.new ≡ cpu.old) }
 {
     let here = register(&cpu.regs, PC);

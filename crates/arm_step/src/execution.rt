@@ -83,6 +83,7 @@ fn execute(cpu: &mut Cpu, image: &Image, machine: &Machine, op: Op) -> Result<St
     ensures place { IfOk result (λ end. StopsAt (registers_of cpu.old.regs pc) end) }
     ensures starved { OnErr result (GoesOn (op_effect machine.now image.now (state_of image.now cpu.old) op)) }
     ensures storing { OnErr result (stores op ≡ true) }
+    ensures quiet { stores op ≡ false → cpu.new.memory ≡ cpu.old.memory }
     ensures refused { OnErr result (cpu.new ≡ cpu.old) }
 {
     match op {
@@ -220,6 +221,7 @@ pub fn step(cpu: &mut Cpu, image: &Image, machine: &Machine) -> Result<StepEnd, 
     ensures place { IfOk result (λ end. StopsAt (registers_of cpu.old.regs pc) end) }
     ensures starved { OnErr result (GoesOn (step machine.now image.now (state_of image.now cpu.old))) }
     ensures storing { OnErr result (MatchOption (decoded (current_word (state_of image.now cpu.old))) ⊥ (λ insn. stores insn.op ≡ true)) }
+    ensures quiet { MatchOption (decoded (current_word (state_of image.now cpu.old))) (cpu.new.memory ≡ cpu.old.memory) (λ insn. stores insn.op ≡ false → cpu.new.memory ≡ cpu.old.memory) }
     ensures refused { OnErr result (cpu.new ≡ cpu.old) }
 {
     let addr = register(&cpu.regs, PC);

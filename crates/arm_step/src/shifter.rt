@@ -7,7 +7,7 @@ ghost use Rattle.wx_base.specs.Shifter.{shifted_left, shifted_right, sign_shifte
 
 use wx_base::Shifted;
 
-/// The codes of the kinds of shift but the last, a rotation.
+/// The codes of the kinds of shift.
 const LSL: u8 = 0;
 
 const LSR: u8 = 1;

@@ -1,6 +1,6 @@
 //! Loads and stores of one register. ARM Architecture Reference Manual, "Load and store instructions".
 
-ghost use Rattle.std.specs.Prelude.{◌≡◌, ◌<◌, ◌^◌, false, IfOk, OnOk, OnErr, take};
+ghost use Rattle.std.specs.Prelude.{◌≡◌, ◌<◌, ◌^◌, false, true, IfOk, OnOk, OnErr, take};
 ghost use Rattle.wx_base.specs.Bits.{bytes_of_word};
 ghost use Rattle.wx_base.specs.State.{replaced, value_of, overwritten, pc};
 ghost use Rattle.wx_base.specs.Transfer.{moved, size_of, extended_from, loaded, moved_base, address_of, registers_behind, transfer_effect};
@@ -141,6 +141,7 @@ pub(crate) fn transfer(
     ensures place { IfOk result (λ end. StopsAt (registers_of cpu.old.regs pc) end) }
     ensures starved { OnErr result (GoesOn (transfer_effect machine.now image.now (state_of image.now cpu.old) t.now)) }
     ensures storing { OnErr result (t.now.load ≡ false) }
+    ensures quiet { t.now.load ≡ true → cpu.new.memory ≡ cpu.old.memory }
     ensures refused { OnErr result (cpu.new ≡ cpu.old) }
 {
     let here = register(&cpu.regs, PC);

@@ -27,7 +27,7 @@ fn symbols(alloc: Global) -> Result<[Symbol; 2], AllocError> {
 fn refuses(rt: HostRuntime) -> Result<(), Fail> {
     let alloc = rt.alloc();
     let symbols = symbols(alloc)?;
-    let rows: [(&[u8], FactsError); 31] = [
+    let rows: [(&[u8], FactsError); 32] = [
         (b"", FactsError::Syntax { at: 0 }),
         (b"<x/>", FactsError::Syntax { at: 1 }),
         (b"<flowfacts>", FactsError::Syntax { at: 11 }),
@@ -88,6 +88,10 @@ fn refuses(rt: HostRuntime) -> Result<(), Fail> {
             FactsError::Number { at: 11 },
         ),
         (
+            b"<flowfacts><loop address=\"0X8\" /></flowfacts>",
+            FactsError::Number { at: 11 },
+        ),
+        (
             b"<flowfacts><loop address=\"0x8004\" maxcount=\"1\"/><loop address=\"32772\" maxcount=\"2\"/></flowfacts>",
             FactsError::Twice { address: 0x8004 },
         ),
@@ -117,13 +121,22 @@ fn refuses(rt: HostRuntime) -> Result<(), Fail> {
     Ok(())
 }
 
-// Whether the facts are so many on loops, jumps and calls.
-fn counts(facts: &Facts) -> [usize; 3] {
-    [
-        facts.loops.as_slice().len(),
-        facts.branches.as_slice().len(),
-        facts.calls.as_slice().len(),
-    ]
+// The facts in a row: of each loop its head and its count, then of each jump and of each call its address and its targets.
+fn told(alloc: Global, facts: &Facts) -> Result<Vec<u32>, AllocError> {
+    let mut row = Vec::new(alloc);
+    for fact in facts.loops.as_slice() {
+        row.push(fact.address)?;
+        row.push(fact.maxcount)?;
+    }
+    for fact in facts.branches.as_slice() {
+        row.push(fact.address)?;
+        row.extend_from_slice(fact.targets.as_slice())?;
+    }
+    for fact in facts.calls.as_slice() {
+        row.push(fact.address)?;
+        row.extend_from_slice(fact.targets.as_slice())?;
+    }
+    Ok(row)
 }
 
 // The file that docs/FORMATS.md shows.
@@ -147,71 +160,48 @@ static EXAMPLE: &[u8] = b"<?xml version=\"1.0\"?>
 fn reads(rt: HostRuntime) -> Result<(), Fail> {
     let alloc = rt.alloc();
     let symbols = symbols(alloc)?;
-    let rows: [(&[u8], [usize; 3]); 10] = [
-        (EXAMPLE, [2, 1, 1]),
-        (b"<flowfacts/>", [0, 0, 0]),
+    let rows: [(&[u8], &[u32]); 10] = [
+        (
+            EXAMPLE,
+            &[0x8010, 7, 0x8024, 3, 0x8040, 0x8050, 0x8054, 0x8060, 0x8070],
+        ),
+        (b"<flowfacts/>", &[]),
         (
             b"<?xml version=\"1.0\"?><!-- x --><flowfacts id=\"a\"></flowfacts>",
-            [0, 0, 0],
+            &[],
         ),
         (
             b"\xef\xbb\xbf\r\n<!-- - --->\t<?xml ?? ?>\n<flowfacts a = '\"' b='' >\n</flowfacts >\n",
-            [0, 0, 0],
-        ),
-        (
-            b"<flowfacts><loop address=\"0X8\" /></flowfacts>",
-            [9, 9, 9],
+            &[],
         ),
         (
             b"<flowfacts><loop address=\"8\" maxcount=\"NOCOMP\"/><loop address=\"8\"/><loop address=\"8\" maxcount=\"0\"/></flowfacts>",
-            [1, 0, 0],
+            &[8, 0],
         ),
         (
-            b"<flowfacts><function label=\"?\" a=\"\"><loop label=\"main\" offset=\"4\" maxcount=\"1\"><loop address=\"0x0000000000ffffFFFF\" maxcount=\"1\"/></loop></function></flowfacts>",
-            [2, 0, 0],
+            b"<flowfacts><function label=\"?\" a=\"\"><loop label=\"main\" offset=\"4\" maxcount=\"1\"><loop address=\"0x0000000000ffffFFFF\" maxcount=\"2\"/></loop></function></flowfacts>",
+            &[0x8004, 1, 0xffff_ffff, 2],
         ),
         (
-            b"<flowfacts><multibranch address=\"8\"/><multicall address=\"8\"/><loop address=\"8\" maxcount=\"1\"/></flowfacts>",
-            [1, 1, 1],
+            b"<flowfacts><multibranch address=\"8\"/><multicall address=\"12\"/><loop address=\"8\" maxcount=\"1\"/></flowfacts>",
+            &[8, 1, 8, 12],
         ),
         (
             b"<flowfacts><multibranch address=\"16\" maxcount=\"x\"><target address=\"9\"/> <target label=\"main\"/><target address=\"9\"></target></multibranch><multibranch address=\"8\"/></flowfacts>",
-            [0, 2, 0],
+            &[8, 16, 9, 0x8000],
         ),
         (
             b"<flowfacts><loop address=\"0010\" maxcount=\"4294967295\"/></flowfacts>",
-            [1, 0, 0],
+            &[10, 0xffff_ffff],
+        ),
+        (
+            b"<flowfacts><loop label='main' offset='0x10' maxcount='7'/><multicall address='16'><target address='9'/><target label='main'/><target address='9'/></multicall><loop address='8' maxcount='5'/><multicall address='8'/></flowfacts>",
+            &[8, 5, 0x8010, 7, 8, 16, 9, 0x8000],
         ),
     ];
     for (file, wanted) in rows {
-        let found = match read_facts(alloc, file, &symbols) {
-            Ok(facts) => counts(&facts),
-            Err(_) => [9, 9, 9],
-        };
-        assert_eq!(rt; found, wanted);
+        let facts = read_facts(alloc, file, &symbols)?;
+        assert_eq!(rt; told(alloc, &facts)?.as_slice(), wanted);
     }
-    Ok(())
-}
-
-#[test]
-fn orders(rt: HostRuntime) -> Result<(), Fail> {
-    let alloc = rt.alloc();
-    let symbols = symbols(alloc)?;
-    let file =
-        b"<flowfacts><loop label='main' offset='0x10' maxcount='7'/><multicall address='16'><target address='9'/><target label='main'/><target address='9'/></multicall><loop address='8' maxcount='5'/><multicall address='8'/></flowfacts>";
-    let facts = read_facts(alloc, file, &symbols)?;
-    let mut text = Vec::new(alloc);
-    for fact in facts.loops.as_slice() {
-        text.push(fact.address)?;
-        text.push(fact.maxcount)?;
-    }
-    for fact in facts.calls.as_slice() {
-        text.push(fact.address)?;
-        text.extend_from_slice(fact.targets.as_slice())?;
-    }
-    assert_eq!(rt;
-        text.as_slice(),
-        [8, 5, 0x8010, 7, 8, 16, 9, 0x8000].as_slice()
-    );
     Ok(())
 }

@@ -31,8 +31,11 @@ static LINES: [&str; 22] = [
     "slow = 6",
 ];
 
-/// The numbers of a description: the line, the name, the key, the least and the greatest, and what is just past them.
-static NUMBERS: [(usize, &str, &str, [i64; 2], [i64; 2]); 18] = [
+/// A number of a description: the line, the name, the key, two that it may be, and two that it may not be.
+type Number = (usize, &'static str, &'static str, [i64; 2], [i64; 2]);
+
+/// The numbers of a description with the least and the greatest, and what is past them.
+static NUMBERS: [Number; 17] = [
     (0, "width", "width", [1, 2], [0, 3]),
     (1, "queue", "queue", [1, 8], [0, 9]),
     (2, "horizon", "horizon", [1, 4095], [0, 4096]),
@@ -40,17 +43,22 @@ static NUMBERS: [(usize, &str, &str, [i64; 2], [i64; 2]); 18] = [
     (5, "hit", "fetch.hit", [1, 1000], [0, 1001]),
     (6, "miss", "fetch.miss", [0, 1000], [-1, 1001]),
     (8, "sets", "cache.sets", [1, 1024], [0, 2048]),
-    (8, "sets", "cache.sets", [512, 256], [3, 1023]),
     (9, "ways", "cache.ways", [1, 16], [0, 17]),
     (10, "line", "cache.line", [4, 256], [2, 512]),
-    (10, "line", "cache.line", [8, 128], [12, 255]),
     (12, "latency", "alu.latency", [1, 1000], [0, 1001]),
     (13, "occupancy", "alu.occupancy", [1, 1000], [0, 1001]),
     (15, "latency", "mul.latency", [1, 1000], [0, 1001]),
+    (16, "occupancy", "mul.occupancy", [1, 1000], [0, 1001]),
     (17, "slow", "mul.slow", [0, 1000], [-1, 1001]),
     (19, "latency", "mem.latency", [1, 1000], [0, 1001]),
     (20, "occupancy", "mem.occupancy", [1, 1000], [0, 1001]),
     (21, "slow", "mem.slow", [0, 1000], [-1, 1001]),
+];
+
+/// Those that are powers of two, with two powers and two other numbers.
+static POWERS: [Number; 2] = [
+    (8, "sets", "cache.sets", [512, 256], [3, 1023]),
+    (10, "line", "cache.line", [8, 128], [12, 255]),
 ];
 
 /// The description with one line replaced, something before it and something behind it.
@@ -143,7 +151,7 @@ fn slow_region(rt: HostRuntime) -> Result<(), Fail> {
 #[test]
 fn numbers(rt: HostRuntime) -> Result<(), Fail> {
     let alloc = rt.alloc();
-    for (at, name, key, within, past) in &NUMBERS {
+    for (at, name, key, within, past) in NUMBERS.iter().chain(&POWERS) {
         for value in within {
             let line = format!(in alloc; "{name} = {value}")?;
             let text = described(alloc, "", *at, line.as_str(), "")?;
