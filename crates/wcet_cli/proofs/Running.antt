@@ -15,7 +15,8 @@ use Rattle.wx_base.specs.Arithmetic.{passes}
 use Rattle.wx_base.specs.Shifter.{rotated_immediate}
 use Rattle.wx_base.specs.State.{State, pc, Outcome, Ended, Stopped}
 use Rattle.wx_base.specs.Step.{alu_effect, current_word, step, executed}
-use Rattle.wx_base.specs.Monitor.{Rules, Frame, Breach}
+use Rattle.wx_base.specs.declared.fact_kind.FactKind.{FactKind}
+use Rattle.wx_base.specs.Monitor.{Rules, Frame}
 use Rattle.wx_base.specs.Recurrence.{Entry, Done, next, past_of, completion}
 use Rattle.wx_base.specs.Vector.{Covers, IsWorse}
 use Rattle.wx_base.specs.Run.{Start, IsStart, End, Broken, Run, begun, run_of, time_of, frames_before, entry_at, after_outcome, after_judgement, advanced}
@@ -122,7 +123,7 @@ advance_is : (m : Machine) (image : Image) (rules : Rules) (run : Run) (frames :
 advance_is m image rules run frames outcome e f s =
     ap (advanced m image rules run) e ∙ ap (after_judgement m image run) f ∙ ap (after_outcome m run frames) s
 
-break_is : (m : Machine) (image : Image) (rules : Rules) (run : Run) (why : Breach) → run.end ≡ None → frames_before rules run.past run.frames (run.state.registers pc) ≡ Err why → advanced m image rules run run.end ≡ record run { end = Some (Broken why) }
+break_is : (m : Machine) (image : Image) (rules : Rules) (run : Run) (why : FactKind) → run.end ≡ None → frames_before rules run.past run.frames (run.state.registers pc) ≡ Err why → advanced m image rules run run.end ≡ record run { end = Some (Broken why) }
 break_is m image rules run why e f = ap (advanced m image rules run) e ∙ ap (after_judgement m image run) f
 
 -- what a plain word makes of the state
@@ -178,7 +179,7 @@ ends_by m program memory run frames g l w = record {
 }
 
 -- a move was judged to break a rule
-broken_by : (m : Machine) (program : List ℕ) (memory : ℕ → ℕ) (run : Run) (breach : Breach) (g : Going m program memory run) → Over m program (record run { end = Some (Broken breach) })
+broken_by : (m : Machine) (program : List ℕ) (memory : ℕ → ℕ) (run : Run) (breach : FactKind) (g : Going m program memory run) → Over m program (record run { end = Some (Broken breach) })
 broken_by m program memory run breach g = record {
   done = g.done;
   left = g.word ∷ g.left;
@@ -204,7 +205,7 @@ looked_at m rules program memory run frames g small w code (Final l p) f =
     (inr (ends_by m program memory run frames g l w))
 
 -- the move to it is judged first
-judged_first : (m : Machine) (rules : Rules) (program : List ℕ) (memory : ℕ → ℕ) (run : Run) (g : Going m program memory run) → 4 * length program ≤ 16777216 → current_word run.state ≡ g.word → is_code_word (image_of program) (run.state.registers pc) ≡ true → Role g.word g.left → (judgement : Result (List Frame) Breach) → frames_before rules run.past run.frames (run.state.registers pc) ≡ judgement → Stands m program memory (advanced m (image_of program) rules run run.end)
+judged_first : (m : Machine) (rules : Rules) (program : List ℕ) (memory : ℕ → ℕ) (run : Run) (g : Going m program memory run) → 4 * length program ≤ 16777216 → current_word run.state ≡ g.word → is_code_word (image_of program) (run.state.registers pc) ≡ true → Role g.word g.left → (judgement : Result (List Frame) FactKind) → frames_before rules run.past run.frames (run.state.registers pc) ≡ judgement → Stands m program memory (advanced m (image_of program) rules run run.end)
 judged_first m rules program memory run g small w code r (Ok frames) f = looked_at m rules program memory run frames g small w code r f
 judged_first m rules program memory run g small w code r (Err breach) f =
     subst (Stands m program memory) (sym (break_is m (image_of program) rules run breach g.goes_on f)) (inr (broken_by m program memory run breach g))

@@ -23,4 +23,6 @@ pub mod Cache
 pub mod Recurrence
 pub mod Vector
 pub mod Monitor
+pub mod Paths
+pub mod Functions
 pub mod Run

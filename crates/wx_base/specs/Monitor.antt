@@ -3,6 +3,8 @@
 use Rattle.std.specs.Prelude.{ℕ, ◌+◌, Bool, true, false, not, ◌==◌, ◌&&◌, ◌||◌, nat_lt, if◌then◌else◌, List, [], ◌∷◌, find, Option, Some, None, is_some, unwrap_or, Result, Ok, Err}
 use Rattle.std.specs.Option.{option_map_or}
 use Rattle.std.specs.List.{list_any}
+use Rattle.wx_base.specs.declared.fact_kind.FactKind.{FactKind}
+use Rattle.wx_base.specs.declared.fact_kind.FactKind.TheVariants.{Branch, Call, Return, Loop}
 use Rattle.wx_base.specs.declared.facts.TargetFact.{TargetFact}
 use Rattle.wx_base.specs.declared.flow.FlowKind.{FlowKind}
 use Rattle.wx_base.specs.Bits.{add_words}
@@ -25,8 +27,7 @@ pub record Function : Type 0 where
 
 -- What moves are judged by: the targets that the facts list for indirect jumps and calls, and the functions with their
 -- loops. A function that is not listed counts as one without loops; of two with one entry, and of two loops with one head,
--- the first counts. So rules are those of an image only if they list every function that it can call and every loop, once,
--- with the bound of the fact on its head.
+-- the first counts. `AreRules` says which rules are those of an image.
 pub record Rules : Type 0 where
   pub branches : List TargetFact
   pub calls : List TargetFact
@@ -38,17 +39,6 @@ pub record Frame : Type 0 where
   pub function : ℕ
   pub last : Option ℕ
   pub counter : ℕ → ℕ
-
--- the rule that a move breaks
-pub data Breach : Type 0 where
-  -- an indirect jump goes to no listed target
-  Branch : Breach
-  -- a call by register goes to no listed target
-  Call : Breach
-  -- a return does not go to the address behind the call that opened the frame
-  Return : Breach
-  -- a loop's back edges are taken more often in one stay than the fact on it says
-  Loop : Breach
 
 -- the frame of an activation that has executed nothing
 abbrev pub opened : ℕ → Frame
@@ -86,7 +76,7 @@ count_into loop frame =
     if option_map_or (is_one_of loop.members) frame.last false then frame.counter loop.head + 1 else 0
 
 -- a frame after a move to an address, which is the head of a loop or of none; or the rule that the move breaks
-abbrev pub at_head : Option BoundedLoop → Frame → Result Frame Breach
+abbrev pub at_head : Option BoundedLoop → Frame → Result Frame FactKind
 at_head None frame = Ok frame
 at_head (Some loop) frame =
     if nat_lt loop.maxcount (count_into loop frame)
@@ -94,18 +84,18 @@ at_head (Some loop) frame =
     else Ok (record frame { counter = replaced frame.counter loop.head (count_into loop frame) })
 
 -- the frames with the youngest, if the move into it breaks no rule
-abbrev pub with_frame : Result Frame Breach → List Frame → Result (List Frame) Breach
+abbrev pub with_frame : Result Frame FactKind → List Frame → Result (List Frame) FactKind
 with_frame (Ok frame) callers = Ok (frame ∷ callers)
 with_frame (Err breach) callers = Err breach
 
 -- a move to an address inside a function
-abbrev pub moved_within : List Function → Frame → List Frame → ℕ → Result (List Frame) Breach
+abbrev pub moved_within : List Function → Frame → List Frame → ℕ → Result (List Frame) FactKind
 moved_within functions frame callers to =
     with_frame (at_head (find (λ loop. loop.head == to) (loops_of functions frame.function)) frame) callers
 
 -- A return to an address: it closes the youngest frame, and is a move in the caller's function, from the call to the address
 -- behind it. Without an open call there is no such move.
-abbrev pub returned : List Function → List Frame → ℕ → Result (List Frame) Breach
+abbrev pub returned : List Function → List Frame → ℕ → Result (List Frame) FactKind
 returned functions [] to = Ok []
 returned functions (caller ∷ callers) to =
     if to == add_words (last_of caller) 4 then moved_within functions caller callers to else Err Return
@@ -115,7 +105,7 @@ abbrev pub is_call : FlowKind → Bool
 is_call flow = is_some flow.call || flow.call_any
 
 -- a move by an instruction that jumped, called or returned
-abbrev pub jumped : Rules → Frame → List Frame → FlowKind → ℕ → Result (List Frame) Breach
+abbrev pub jumped : Rules → Frame → List Frame → FlowKind → ℕ → Result (List Frame) FactKind
 jumped rules frame callers flow to =
     if flow.indirect && not (is_target rules.branches (last_of frame) to)
     then Err Branch
@@ -129,7 +119,7 @@ jumped rules frame callers flow to =
 
 -- What a move from an instruction to an address makes of the frames, or the rule that it breaks. The instruction is the one
 -- that was executed last, so its address stands in the youngest frame.
-unfoldable pub judged : Rules → List Frame → Entry → ℕ → Result (List Frame) Breach
+unfoldable pub judged : Rules → List Frame → Entry → ℕ → Result (List Frame) FactKind
 judged rules [] from to = Ok []
 judged rules (frame ∷ callers) from to =
     if from.taken

@@ -1,6 +1,8 @@
 -- Runs of an image on the written machine, and how long they take. This project's own.
 use Rattle.std.specs.Prelude.{◌≡◌, ◌≢◌, ℕ, zero, suc, ◌<◌, ◌^◌, Bool, false, not, if◌then◌else◌, List, [], ◌∷◌, slice_index, Option, Some, None, Result, Ok, Err}
 use Rattle.wx_base.specs.declared.machine.Machine.{Machine}
+use Rattle.wx_base.specs.declared.fact_kind.FactKind.{FactKind}
+use Rattle.wx_base.specs.declared.fact_kind.FactKind.TheVariants.{Branch, Call, Return, Loop}
 use Rattle.wx_base.specs.declared.image.Image.{Image}
 use Rattle.wx_base.specs.Image.{byte_of}
 use Rattle.wx_base.specs.declared.step.Why.{Why}
@@ -9,7 +11,7 @@ use Rattle.wx_base.specs.Step.{current_word, step}
 use Rattle.wx_base.specs.Cache.{Lines, IsCache, line_of, holds_line, accessed}
 use Rattle.wx_base.specs.Recurrence.{Entry, Done, next, completion}
 use Rattle.wx_base.specs.Flow.{flow_of}
-use Rattle.wx_base.specs.Monitor.{Rules, Frame, Breach, first_frame, executed_at, judged, leaves, Branch, Call, Return, Loop}
+use Rattle.wx_base.specs.Monitor.{Rules, Frame, first_frame, executed_at, judged, leaves}
 
 -- a start: registers, flags and memory, and the instruction cache
 pub record Start : Type 0 where
@@ -32,7 +34,7 @@ pub data End : Type 0 where
   -- the machine stopped before an instruction
   Halted : Why → End
   -- the move to the next instruction breaks a rule
-  Broken : Breach → End
+  Broken : FactKind → End
 
 -- A run so far: where it is; what it has executed and at which addresses, the last instruction first; the frames of its
 -- open calls, and of the start; and its end if it has come to one.
@@ -57,7 +59,7 @@ begun entry start =
     }
 
 -- the frames with which the machine looks at the instruction at pc; a run's first instruction is reached by no move
-abbrev pub frames_before : Rules → List Done → List Frame → ℕ → Result (List Frame) Breach
+abbrev pub frames_before : Rules → List Done → List Frame → ℕ → Result (List Frame) FactKind
 frames_before rules [] frames to = Ok frames
 frames_before rules (i ∷ past) frames to = judged rules frames i.entry to
 
@@ -96,7 +98,7 @@ after_outcome m run frames Ended = extended m run frames (entry_at m run false f
 after_outcome m run frames (Stopped why) = record run { end = Some (Halted why) }
 
 -- the run after the move to pc was judged
-abbrev pub after_judgement : Machine → Image → Run → Result (List Frame) Breach → Run
+abbrev pub after_judgement : Machine → Image → Run → Result (List Frame) FactKind → Run
 after_judgement m image run (Err breach) = record run { end = Some (Broken breach) }
 after_judgement m image run (Ok frames) = after_outcome m run frames (step m image run.state)
 
@@ -116,14 +118,14 @@ run_of m image rules entry start (suc n) =
 -- No move that was judged breaks a rule: those between the run's instructions and, where the machine stopped, the one to
 -- where it stopped. A run that is cut has no judged move behind its last instruction.
 abbrev pub Obeys : Run → Type 0
-Obeys run = (breach : Breach) → run.end ≢ Some (Broken breach)
+Obeys run = (breach : FactKind) → run.end ≢ Some (Broken breach)
 
 -- how long it takes, in cycles
 abbrev pub time_of : Run → ℕ
 time_of run = completion [] run.past
 
 -- the address at which a rule is broken: the head of the loop, which the move leads to, else the instruction that jumped
-abbrev pub breach_address : Run → Breach → ℕ
+abbrev pub breach_address : Run → FactKind → ℕ
 breach_address run Loop = run.state.registers pc
 breach_address run Branch = slice_index run.addresses 0
 breach_address run Call = slice_index run.addresses 0

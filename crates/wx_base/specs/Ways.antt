@@ -6,8 +6,8 @@ use Rattle.wx_base.specs.Bits.{add_words}
 use Rattle.wx_base.specs.Facts.{targets_of}
 use Rattle.wx_base.specs.Flow.{flow_of}
 
--- Its ways, the addresses that may follow it in its function: the address behind it, the target of a direct jump, and the
--- targets that the facts list for an indirect one.
+-- Its ways, the addresses that may follow it in its function: the address behind it where it may go on there, the target of a
+-- direct jump, and the targets that the facts list for an indirect one.
 abbrev pub ways_by : Facts → ℕ → FlowKind → List ℕ
 ways_by facts address flow =
     (if flow.next then add_words address 4 ∷ [] else []) ++ option_to_list flow.jump

@@ -3,6 +3,7 @@
 
 mod cursor;
 mod decimal;
+mod fact_kind;
 mod facts;
 mod file;
 mod flow;
@@ -24,6 +25,7 @@ mod times;
 
 pub use cursor::Cursor;
 pub use decimal::{decimal_is_shortest, push_number};
+pub use fact_kind::FactKind;
 pub use facts::{Addresses, Facts, LoopFact, LoopFacts, TargetFact, TargetFacts};
 pub use file::File;
 pub use flow::FlowKind;
