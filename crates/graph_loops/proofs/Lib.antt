@@ -1,0 +1,9 @@
+mod Places
+mod PathLemmas
+mod WalkLemmas
+mod SourceLemmas
+mod WayLemmas
+mod CycleLemmas
+mod MemberLemmas
+mod HeadLemmas
+mod OrderLemmas
