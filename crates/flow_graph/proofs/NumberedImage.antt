@@ -1,0 +1,34 @@
+-- The loops of a function of an image, from those of the graph over the numbers of its addresses.
+use Rattle.std.proofs.Common.{◌≡◌, ℕ, ◌<◌, List, length, map, Some, subst, sym}
+use Rattle.std.specs.List.{All}
+use Rattle.std.specs.Prelude.{slice_index}
+use Rattle.wx_base.specs.declared.facts.Facts.{Facts}
+use Rattle.wx_base.specs.declared.image.Image.{Image}
+use Rattle.wx_base.specs.Functions.{ways_at, bound_of, IsLoop, AreLoops}
+use Rattle.wx_base.specs.Monitor.{BoundedLoop}
+use Rattle.wx_base.specs.Paths.{IsHead, IsMember}
+use Rattle.graph_loops.specs.Graph.{edges}
+use Rattle.flow_graph.specs.Numbers.{IsNumbering}
+use Rattle.flow_graph.proofs.NumberedLists.{AreJust, any_with_key, pairs_from_mapped}
+use Rattle.flow_graph.proofs.NumberedLoops.{head_within, head_to, just_heads, just_members}
+
+module _ {image : Image} {facts : Facts} {addresses : List ℕ} {numbered : List (List ℕ)} (is : IsNumbering addresses numbered (ways_at image facts)) where
+  -- a loop of numbers, with the bound that the facts give its head
+  pub loop_to : (e h maxcount : ℕ) (members : List ℕ) → e < length addresses → IsHead (edges numbered) e h → AreJust (IsMember (edges numbered) e h) members
+      → bound_of facts (slice_index addresses h) ≡ Some maxcount
+      → IsLoop image facts (slice_index addresses e) (record { head = slice_index addresses h; members = map (slice_index addresses) members; maxcount = maxcount })
+  loop_to e h maxcount members he head just bound =
+      let mapped = just_members is e h members he (head_within is he head) just in
+      record { head = head_to is he head; bound = bound; ascending = mapped.ascending; members = mapped.sound; whole = mapped.whole }
+
+  -- loops with the addresses of exactly the heads are all the loops
+  pub loops_to : (e : ℕ) (heads : List ℕ) (loops : List BoundedLoop) → e < length addresses → AreJust (IsHead (edges numbered) e) heads
+      → map (λ l. l.head) loops ≡ map (slice_index addresses) heads → All (λ l. IsLoop image facts (slice_index addresses e) l) loops
+      → AreLoops image facts (slice_index addresses e) loops
+  loops_to e heads loops he just same each =
+      let mapped = subst (AreJust (IsHead (ways_at image facts) (slice_index addresses e))) (sym same) (just_heads is e heads he just) in
+      record {
+        ascending = pairs_from_mapped (λ h k. h < k) (λ l. l.head) loops mapped.ascending;
+        each = each;
+        whole = λ h head. any_with_key (λ l. l.head) loops h (mapped.whole h head);
+      }

@@ -1,0 +1,13 @@
+pub mod Sites
+pub mod Blocks
+pub mod Code
+pub mod Events
+pub mod Growth
+pub mod Starts
+pub mod Program
+pub mod Refusals
+pub mod Numbers
+pub mod Laws
+pub mod Reached
+pub mod Listing
+pub mod Outlines
