@@ -1,0 +1,11 @@
+mod StartCursor
+mod StartDecimals
+mod StartHex
+mod StartSoFar
+mod StartFollows
+mod StartFronts
+mod StartSaying
+mod StartLists
+mod StartCauses
+mod StartWhole
+mod StartBegun

@@ -1,0 +1,7 @@
+pub mod Start
+pub mod StartText
+pub mod StartReading
+pub mod StartSaid
+pub mod StartMade
+pub mod StartRefusal
+pub mod StartLaws
