@@ -1,0 +1,7 @@
+pub mod Searching
+pub mod Frames
+pub mod Moves
+pub mod Steps
+pub mod Whole
+pub mod Rising
+pub mod Fresh

@@ -1,0 +1,10 @@
+use Rattle.std.proofs.Common.{rules}
+use Rattle.std.proofs.lemmas.List.Sorted.{answers_always}
+use Rattle.run_machine.proofs.Searching.{placed}
+use Rattle.run_machine.proofs.search.place_of_head.Goals as goal
+
+-- the closure gives an element's key
+pub returns : goal.returns
+returns c =
+    let facts = c.binary_search_by_key.ensures in
+    placed (λ x. x.head) c.args.loops.now c.args.head c.binary_search_by_key.result c.requires facts.bound (facts.position (λ x. x.head) (answers_always _ _ _ (λ f a r g called. search rules)))

@@ -1,0 +1,5 @@
+pub mod Judging
+pub mod Report
+pub mod Walk
+pub mod Look
+pub mod Starts
