@@ -22,7 +22,7 @@ use Rattle.ffx_facts.proofs.Judged.{same_fact_flips}
 use Rattle.ffx_facts.proofs.Ordered.{distinct_at}
 
 -- a file has its elements and no others
-one_reading : (b : List ℕ) (es fs : List Element) → IsFile b es → IsFile b fs → es ≡ fs
+pub one_reading : (b : List ℕ) (es fs : List Element) → IsFile b es → IsFile b fs → es ≡ fs
 one_reading b es fs e f =
     let same : Some e.state ≡ Some f.state = sym e.read ∙ f.read in
     let one : e.state ≡ f.state = cc in
@@ -37,10 +37,11 @@ one_front b i j f g = by (cases_lt i j) (cases_lt j i)
     by (inr h) (inl k) = absurd (g.longest i k f.within f.begins)
     by (inr h) (inr k) = omega arith
 
-abbrev as_ok : Says → Result Says FactsError
+abbrev pub as_ok : Says → Result Says FactsError
 as_ok s = Ok s
 
-oks_same : (xs ys : List Says) → map as_ok xs ≡ map as_ok ys → xs ≡ ys
+-- answers that are one say one thing
+pub oks_same : (xs ys : List Says) → map as_ok xs ≡ map as_ok ys → xs ≡ ys
 oks_same [] [] h = refl
 oks_same [] (y ∷ ys) h = cc
 oks_same (x ∷ xs) [] h = cc

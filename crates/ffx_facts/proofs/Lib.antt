@@ -6,6 +6,7 @@ pub mod Numerals
 pub mod Judged
 pub mod Ordered
 pub mod Exact
+pub mod FactsOne
 pub mod Spelled
 pub mod Split
 pub mod Documents

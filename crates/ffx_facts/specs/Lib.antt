@@ -10,3 +10,4 @@ pub mod Memory
 pub mod Causes
 pub mod Grammar
 pub mod Document
+pub mod Laws

@@ -4,6 +4,7 @@ ghost use Rattle.std.specs.Prelude.{List, ℕ};
 ghost use Rattle.ffx_facts.specs.Document.{IsDocument};
 ghost use Rattle.ffx_facts.specs.File.{IsFile};
 ghost use Rattle.ffx_facts.specs.Grammar.{IsSpelled};
+ghost use Rattle.ffx_facts.specs.Laws.{FactsAreOne};
 ghost use Rattle.ffx_facts.specs.Machine.{Element as Read};
 
 /// What the grammar spells, piece by piece, is read byte by byte as a file with the same elements.
@@ -24,4 +25,9 @@ pub fn a_document_is_a_file()
 /// What is read byte by byte as a file is a document with the same elements.
 pub fn a_file_is_a_document()
     ensures { (bytes : List ℕ) (elements : List Read) → IsFile bytes elements → IsDocument bytes elements }
+{}
+
+/// With the symbols of an image, bytes state one set of facts: what [`crate::read_facts`] accepts has no second reading.
+pub fn facts_are_one()
+    ensures { FactsAreOne }
 {}
