@@ -10,3 +10,12 @@ pub mod Reading
 pub mod Ends
 pub mod Due
 pub mod SomeDue
+pub mod Unread
+pub mod Stopping
+pub mod RunReplies
+pub mod NoFacts
+pub mod OneFlowRefusal
+pub mod OneStart
+pub mod Narrowing
+pub mod OneUnread
+pub mod OneRun

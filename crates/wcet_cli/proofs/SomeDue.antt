@@ -15,7 +15,8 @@ use Rattle.wcet_cli.specs.declared.reply.Reply.{Reply}
 use Rattle.wcet_cli.specs.declared.reply.Reply.TheVariants as reply
 use Rattle.wcet_cli.specs.Straight.{is_plain_alu, origin, IsPlain, IsLast, bytes_of, address_behind, IsProgram, IsCutOff, IsForeign, bound_of}
 use Rattle.wcet_cli.specs.Flat.{IsNoFault}
-use Rattle.wcet_cli.specs.Call.{FitsForm, FlatCause, HasCause, NoForm, OfFlat, AreBytes}
+use Rattle.wcet_cli.specs.Command.{IsFlat, FitsForm, FitsFlat, FitsRun}
+use Rattle.wcet_cli.specs.Call.{IsNoRun, FlatCause, HasCause, NoForm, OfFlat, AreBytes}
 
 -- how the words of some bytes go, from a number of words on
 data Course (bytes : List ℕ) : Type 0 where
@@ -154,8 +155,12 @@ of_content contents name (Some bytes) e all =
     (λ (short : length bytes ≤ 16777216). of_course contents name bytes e short (course bytes (all name bytes e)))
     (cases_lt 16777216 (length bytes))
 
--- the words are `flat` and a name, or they are not
-form : (words : List (List ℕ)) → FitsForm words ⊎ (FitsForm words → ⊥)
+-- the words are `flat` and a name
+abbrev HasName : List (List ℕ) → Type 0
+HasName words = (name : List ℕ) × IsFlat words name
+
+-- they are, or they are not
+form : (words : List (List ℕ)) → HasName words ⊎ (HasName words → ⊥)
 form [] = inr (λ f. cc_form f.1)
   where
     cc_form : {name : List ℕ} → [] ≡ codes "flat" ∷ name ∷ [] → ⊥
@@ -163,7 +168,7 @@ form [] = inr (λ f. cc_form f.1)
 form (w ∷ []) = inr (λ f. let e = f.1 in cc)
 form (w ∷ name ∷ []) = by_test (bytes_eq w (codes "flat")) refl
   where
-    by_test : (b : Bool) → bytes_eq w (codes "flat") ≡ b → FitsForm (w ∷ name ∷ []) ⊎ (FitsForm (w ∷ name ∷ []) → ⊥)
+    by_test : (b : Bool) → bytes_eq w (codes "flat") ≡ b → HasName (w ∷ name ∷ []) ⊎ (HasName (w ∷ name ∷ []) → ⊥)
     by_test true e = inl (name, ap (λ x. x ∷ name ∷ []) ((bytes_eq-Decides w (codes "flat")).0 e))
     by_test false e = inr (λ f. let same : w ≡ codes "flat" = first f.1 in no ((bytes_eq-Decides w (codes "flat")).1 same) e)
       where
@@ -174,10 +179,15 @@ form (w ∷ name ∷ []) = by_test (bytes_eq w (codes "flat")) refl
         no p q = cc
 form (w ∷ name ∷ x ∷ words) = inr (λ f. let e = f.1 in cc)
 
+-- words that are neither those of `flat` nor those of `run` fit no form
+no_form : (words : List (List ℕ)) → IsNoRun words → (HasName words → ⊥) → FitsForm words → ⊥
+no_form words no_run none (FitsFlat name is) = none (name, is)
+no_form words no_run none (FitsRun w is) = no_run w is
+
 -- some reply is due
-pub some_is_due : (contents : Contents) (words : List (List ℕ)) → AreBytes contents → (due : Reply) × HasCause (Some contents) 0 0 words due × IsNoFault due
-some_is_due contents words all =
+pub some_is_due : (contents : Contents) (words : List (List ℕ)) → IsNoRun words → AreBytes contents → (due : Reply) × HasCause (Some contents) 0 0 words due × IsNoFault due
+some_is_due contents words no_run all =
     ⊎_elim
-    (λ (fits : FitsForm words). let d = of_content contents fits.0 (contents fits.0) refl all in (d.due, OfFlat fits.0 fits.1 d.cause, d.free))
-    (λ (none : FitsForm words → ⊥). (reply.Usage, NoForm none refl, tt))
+    (λ (fits : HasName words). let d = of_content contents fits.0 (contents fits.0) refl all in (d.due, OfFlat fits.0 fits.1 d.cause, d.free))
+    (λ (none : HasName words → ⊥). (reply.Usage, NoForm (no_form words no_run none) refl, tt))
     (form words)

@@ -1,12 +1,13 @@
-ghost use Rattle.std.specs.Prelude.{◌≡◌, ◌≢◌, ◌≤◌, length, IfOk};
+ghost use Rattle.std.specs.Prelude.{◌≡◌, ◌≤◌, length, IfOk};
 ghost use Rattle.wx_base.specs.Outside.{counted};
 ghost use Rattle.wcet_cli.specs.Call.{FlatCause};
-ghost use Rattle.wcet_cli.specs.Flat.{IsBoundReply, IsFaultReply, IsNoFault};
+ghost use Rattle.wcet_cli.specs.Flat.{IsBoundReply, IsNoFault};
 
+use crate::files::fault_reply;
 use crate::reply::Reply;
 use crate::straight::{Refusal, bound_of_bytes};
 use std::alloc::Global;
-use wx_base::{Machine, NoMemory, Store, StoreFault, Text};
+use wx_base::{Machine, NoMemory, Store, StoreFault};
 
 /// The reply to `flat` and the name of a file: the bound of the straight program that its bytes begin with.
 pub fn flat<S: Store>(alloc: Global, code: &str, store: &mut S) -> Result<Reply, NoMemory>
@@ -34,19 +35,5 @@ fn bound_reply(alloc: Global, bytes: &[u8]) -> Reply
         Ok(cycles) => Reply::Bound { cycles },
         Err(Refusal::LeavesCode { addr }) => Reply::LeavesCode { addr },
         Err(Refusal::Unsupported { addr, word }) => Reply::Unsupported { addr, word },
-    }
-}
-
-/// The reply to a file that could not be read.
-fn fault_reply(alloc: Global, code: &str, fault: StoreFault) -> Result<Reply, NoMemory>
-    requires { fault ≢ StoreFault.NoMemory }
-    ensures { IfOk result (IsFaultReply code.now fault) }
-{
-    let name = Text::new(Vec::from_slice(alloc, code.as_bytes())?);
-    match fault {
-        StoreFault::Failed => Ok(Reply::Unreadable { name }),
-        StoreFault::Missing => Ok(Reply::Missing { name }),
-        StoreFault::Long => Ok(Reply::LongFile { name }),
-        StoreFault::NoMemory => Err(NoMemory),
     }
 }

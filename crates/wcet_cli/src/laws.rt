@@ -2,7 +2,8 @@
 
 ghost use Rattle.wcet_cli.specs.Call.{SomeReplyIsDue, NoOtherIsDue};
 
-/// Whatever the words and whatever a store holds, exactly one reply is due where nothing fails.
+/// Whatever the words, unless they are of the form of `run`, and whatever a store holds, exactly one reply is due where nothing
+/// fails.
 pub fn one_reply_is_due()
     ensures some { SomeReplyIsDue }
     ensures no_other { NoOtherIsDue }

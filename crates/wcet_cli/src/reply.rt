@@ -1,9 +1,28 @@
-ghost use Rattle.std.specs.Prelude.{◌≡◌, ◌++◌, ◌∷◌, OnOk, codes};
-ghost use Rattle.wx_base.specs.Hexadecimal.{hex_word};
+ghost use Rattle.std.specs.Prelude.{◌≡◌};
+ghost use Rattle.wcet_cli.specs.Reply.{run_status};
 
-use crate::status::{ANSWERED, MISUSED, REFUSED_IMAGE, TOO_LARGE, UNREAD};
+mod pieces;
+mod refusal_lines;
+mod report_line;
+#[cfg(test)]
+mod tests;
+
+use self::pieces::{push, push_named, push_numbered, push_placed, push_placed_word};
+use self::refusal_lines::{
+    push_bad_facts, push_bad_flow, push_bad_image, push_bad_machine, push_bad_start,
+};
+use self::report_line::push_report;
+use crate::status::{
+    ANSWERED, BREAKS_FACT, MISUSED, REFUSED_FACTS, REFUSED_IMAGE, REFUSED_MACHINE, REFUSED_START,
+    TOO_LARGE, UNREAD,
+};
+use elf_image::ElfError;
+use ffx_facts::FactsError;
+use flow_graph::FlowError;
+use machine_desc::MachineError;
+use run_machine::{End, Report, StartError};
 use std::alloc::Global;
-use wx_base::{NoMemory, Text, push_number, push_word};
+use wx_base::{NoMemory, Text};
 
 /// What the program answers to its words: the bound, or why there is none.
 #[derive(Debug, Drop)]
@@ -22,6 +41,20 @@ pub enum Reply {
     Unsupported { addr: u32, word: u32 },
     /// The file has more than 16,777,216 bytes.
     LongFile { name: Text },
+    /// The file is no image.
+    BadImage { refusal: ElfError },
+    /// The file tells no facts.
+    BadFacts { refusal: FactsError },
+    /// The file describes no machine.
+    BadMachine { refusal: MachineError },
+    /// The image has no symbol of this name.
+    NoEntry { name: Text },
+    /// The file tells no start.
+    BadStart { refusal: StartError },
+    /// The image with the facts has no program.
+    BadFlow { refusal: FlowError },
+    /// What the run came to.
+    Ran { report: Report },
 }
 
 impl Reply {
@@ -40,49 +73,63 @@ impl Reply {
             Reply::LeavesCode { .. } => REFUSED_IMAGE,
             Reply::Unsupported { .. } => REFUSED_IMAGE,
             Reply::LongFile { .. } => TOO_LARGE,
+            Reply::BadImage { .. } => REFUSED_IMAGE,
+            Reply::BadFacts { .. } => REFUSED_FACTS,
+            Reply::BadMachine { .. } => REFUSED_MACHINE,
+            Reply::NoEntry { .. } => REFUSED_IMAGE,
+            Reply::BadStart { .. } => REFUSED_START,
+            Reply::BadFlow { .. } => REFUSED_IMAGE,
+            Reply::Ran { report } => run_status(report.end),
         }
     }
 
-    /// The reply as a line, its end included. Addresses and words are eight hexadecimal digits, and a name stands as it is.
+    /// The reply as a line, its end included. A refusal is its name and its fields as they are declared. Addresses and
+    /// words are eight hexadecimal digits, other numbers are decimal, and a name stands as it is.
     pub fn line(&self, alloc: Global) -> Result<Vec<u8>, NoMemory>
         ensures { IfOk result (λ text. text.items ≡ text_of self.now) }
     {
         let mut text = Vec::new(alloc);
         match self {
             Reply::Bound { cycles } => {
-                text.extend_from_slice(b"bound ".as_slice())?;
-                push_number(alloc, &mut text, i128::from(*cycles))?;
+                push_numbered(alloc, &mut text, b"bound".as_slice(), *cycles)?
             }
-            Reply::Usage => text.extend_from_slice(b"usage".as_slice())?,
-            Reply::Unreadable { name } => push_named(&mut text, b"read ".as_slice(), name)?,
-            Reply::Missing { name } => push_named(&mut text, b"missing ".as_slice(), name)?,
+            Reply::Usage => push(&mut text, b"usage".as_slice())?,
+            Reply::Unreadable { name } => {
+                push_named(&mut text, b"read".as_slice(), name.as_bytes())?
+            }
+            Reply::Missing { name } => {
+                push_named(&mut text, b"missing".as_slice(), name.as_bytes())?
+            }
             Reply::LeavesCode { addr } => {
-                text.extend_from_slice(b"image LeavesCode ".as_slice())?;
-                push_word(&mut text, *addr)?;
+                push_placed(&mut text, b"image LeavesCode".as_slice(), *addr)?
             }
-            Reply::Unsupported { addr, word } => push_unsupported(&mut text, *addr, *word)?,
-            Reply::LongFile { name } => push_named(&mut text, b"large file ".as_slice(), name)?,
+            Reply::Unsupported { addr, word } => {
+                push_placed_word(&mut text, b"image Unsupported".as_slice(), *addr, *word)?
+            }
+            Reply::LongFile { name } => {
+                push_named(&mut text, b"large file".as_slice(), name.as_bytes())?
+            }
+            Reply::BadImage { refusal } => push_bad_image(alloc, &mut text, refusal)?,
+            Reply::BadFacts { refusal } => push_bad_facts(alloc, &mut text, refusal)?,
+            Reply::BadMachine { refusal } => push_bad_machine(alloc, &mut text, refusal)?,
+            Reply::NoEntry { name } => {
+                push_named(&mut text, b"image NoEntry".as_slice(), name.as_bytes())?
+            }
+            Reply::BadStart { refusal } => push_bad_start(alloc, &mut text, refusal)?,
+            Reply::BadFlow { refusal } => push_bad_flow(&mut text, refusal)?,
+            Reply::Ran { report } => push_report(alloc, &mut text, *report)?,
         }
         text.push(b'\n')?;
         Ok(text)
     }
 }
 
-/// Appends what happened and the file that it happened to.
-fn push_named(text: &mut Vec<u8>, what: &[u8], name: &Text) -> Result<(), NoMemory>
-    ensures { OnOk result (text.new.items ≡ text.old.items ++ what.now ++ name.now) }
+/// The status with which a run's report ends the program.
+fn run_status(end: End) -> u8
+    ensures { result ≡ run_status end }
 {
-    text.extend_from_slice(what)?;
-    text.extend_from_slice(name.as_bytes())?;
-    Ok(())
-}
-
-/// Appends the refusal of a word at an address.
-fn push_unsupported(text: &mut Vec<u8>, addr: u32, word: u32) -> Result<(), NoMemory>
-    ensures { OnOk result (text.new.items ≡ text.old.items ++ codes "image Unsupported " ++ hex_word addr ++ 32 ∷ hex_word word) }
-{
-    text.extend_from_slice(b"image Unsupported ".as_slice())?;
-    push_word(text, addr)?;
-    text.push(b' ')?;
-    push_word(text, word)
+    match end {
+        End::Ended | End::Limit | End::Stopped { .. } => ANSWERED,
+        End::Breaks { .. } => BREAKS_FACT,
+    }
 }

@@ -10,7 +10,15 @@ pub const UNREAD: u8 = 2;
 pub const UNWRITTEN: u8 = 3;
 /// The image is refused.
 pub const REFUSED_IMAGE: u8 = 4;
+/// The facts are refused.
+pub const REFUSED_FACTS: u8 = 5;
+/// The machine's description is refused.
+pub const REFUSED_MACHINE: u8 = 6;
 /// Memory is wanting.
 pub const STARVED: u8 = 9;
 /// Something is too large.
 pub const TOO_LARGE: u8 = 10;
+/// The run breaks a fact.
+pub const BREAKS_FACT: u8 = 11;
+/// The start text is refused.
+pub const REFUSED_START: u8 = 12;

@@ -6,4 +6,4 @@ pub returns-clause-some : goal.returns-clause-some
 returns-clause-some c = some_is_due
 
 pub returns-clause-no_other : goal.returns-clause-no_other
-returns-clause-no_other c contents words due other p q = one_is_due contents 0 0 0 0 words due other p q
+returns-clause-no_other c contents words due other no_run p q = one_is_due contents 0 0 0 0 words due other no_run p q
