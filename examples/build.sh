@@ -11,6 +11,7 @@ set -eu
 
 here=$(cd "$(dirname "$0")" && pwd)
 there=${1:-}
+if [ -n "$there" ]; then there=$(cd "$there" && pwd); fi
 common="-marm -ffreestanding -nostdlib -fno-unwind-tables -fno-asynchronous-unwind-tables -fno-ident"
 linked="-static -Wl,-n -Wl,--build-id=none"
 
