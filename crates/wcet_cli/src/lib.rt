@@ -46,8 +46,8 @@ const MEMORY_LINE: &[u8] = b"memory\n";
 /// a start file, and says what the one run that they tell comes to within N instructions: its time in cycles, how many instructions
 /// it executed and how it ended, or the first fact that it breaks.
 ///
-/// The text is made whole before its first piece is put. Linear in the length of the files, but for what `build` of
-/// `flow_graph` takes; a run takes a time linear in N.
+/// The text is made whole before its first piece is put. `flat` is linear in the length of its file; `run` takes the time of the readers
+/// of its files, of `build` of `flow_graph`, and of at most N steps.
 ///
 /// | status | line | when |
 /// |---|---|---|
