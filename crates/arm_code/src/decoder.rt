@@ -118,7 +118,7 @@ fn read_svc(word: u32) -> Option<Op>
     }
 }
 
-/// The rows whose bits 27 to 25 are 0: bits 4 and 7 tell an operand by register, and then a multiplication or a transfer
+/// The rows whose bits 27 to 25 are 0: bits 4 and 7 tell an operand by register, and then a multiplication or transfer
 /// of a half word, whose sort is not 0.
 fn read_mixed(word: u32) -> Option<Op>
     requires { bits 27 25 word ≡ 0 }

@@ -1,4 +1,4 @@
-//! From instructions to words. The bits are put together in 64, so that fields past their place show as a longer number.
+//! From instructions to words. The bits are put together in 64, so that fields past their place show as a long number.
 
 ghost use Rattle.std.specs.Prelude.{◌≡◌, ℕ, ◌<◌, ◌≤◌, ◌^◌, ◌+◌, ◌*◌, Some, IsTrue, ◌↔◌};
 ghost use Rattle.arm_code.specs.Encoding.{decoded, word_of, op_bits, operand_bits, offset_bits, half_offset_bits, index_bits, half_kind_bits, shift_bits, register_pair, factor_bits, flag_bit, IsValid};
@@ -108,34 +108,25 @@ fn alu_bits(op: u8, s: bool, rn: u8, rd: u8, operand: Operand) -> u64
 
 fn mul_bits(accumulate: bool, s: bool, rd: u8, rn: u8, rs: u8, rm: u8) -> u64
     ensures value { result ≡ op_bits (Op.Mul accumulate s rd rn rs rm) }
-    ensures small { result < 2 ^ 40 }
+    ensures small { result < 2 ^ 39 }
 {
     flag(accumulate, 21) + flag(s, 20) + register_pair(rd, rn) + factor_bits(rs, rm)
 }
 
-fn mul_long_bits(signed: bool, accumulate: bool, s: bool, hi: u8, lo: u8, rs: u8, rm: u8) -> u64
-    ensures value { result ≡ op_bits (Op.MulLong signed accumulate s hi lo rs rm) }
+/// The bits of a long product: those of a product, whose registers are the two halves, and two more.
+fn mul_long_bits(signed: bool, product: u64) -> u64
+    requires { product < 2 ^ 39 }
+    ensures value { result ≡ 2 ^ 23 + flag_bit signed 22 + product }
     ensures small { result < 2 ^ 40 }
 {
-    (1 << 23)
-        + flag(signed, 22)
-        + flag(accumulate, 21)
-        + flag(s, 20)
-        + register_pair(hi, lo)
-        + factor_bits(rs, rm)
+    (1 << 23) + flag(signed, 22) + product
 }
 
-fn single_bits(
-    load: bool,
-    byte: bool,
-    rd: u8,
-    rn: u8,
-    index: Index,
-    up: bool,
-    offset: Offset,
-) -> u64
-    ensures value { result ≡ op_bits (Op.Single load byte rd rn index up offset) }
-    ensures small { result < 2 ^ 40 }
+/// The bits of a transfer of a word or byte, but for its offset.
+fn single_bits(load: bool, byte: bool, rd: u8, rn: u8, index: Index, up: bool) -> u64
+    ensures value { result ≡ 2 ^ 26 + index_bits index + flag_bit up 23 + flag_bit byte 22 + flag_bit load 20
+        + register_pair rn rd }
+    ensures small { result < 2 ^ 39 }
 {
     (1 << 26)
         + index_bits(index)
@@ -143,7 +134,6 @@ fn single_bits(
         + flag(byte, 22)
         + flag(load, 20)
         + register_pair(rn, rd)
-        + offset_bits(offset)
 }
 
 fn half_bits(kind: HalfKind, rd: u8, rn: u8, index: Index, up: bool, offset: HalfOffset) -> u64
@@ -214,7 +204,7 @@ fn op_bits(op: Op) -> u64
             lo,
             rs,
             rm,
-        } => mul_long_bits(signed, accumulate, s, hi, lo, rs, rm),
+        } => mul_long_bits(signed, mul_bits(accumulate, s, hi, lo, rs, rm)),
         Op::Single {
             load,
             byte,
@@ -223,7 +213,7 @@ fn op_bits(op: Op) -> u64
             index,
             up,
             offset,
-        } => single_bits(load, byte, rd, rn, index, up, offset),
+        } => single_bits(load, byte, rd, rn, index, up) + offset_bits(offset),
         Op::Half {
             kind,
             rd,

@@ -54,7 +54,8 @@ pub fn offset_target(addr: u32, words: i32) -> u32
 
 /// A law of branches: the target by the offset that is read in a word is the one that the word's bits say.
 pub fn offsets_give_targets()
-    ensures { (address words : ℕ) → words < 2 ^ 24 → offset_target address (signed_offset words) ≡ branch_target address words }
+    ensures { (address words : ℕ) → words < 2 ^ 24 → offset_target address (signed_offset words)
+        ≡ branch_target address words }
 {}
 
 /// A branch jumps, or calls if it links; behind a call it goes on.
@@ -167,9 +168,11 @@ fn op_flow(cond: u8, addr: u32, op: Op) -> FlowKind
     }
 }
 
-/// What an instruction at an address is to the flow of its function. `next` is false only where it surely jumps, returns
-/// or ends: where its condition is "always", and it is no call. Returns are `bx lr`, `mov pc, lr`, a block transfer from
-/// sp that loads pc, and `ldr pc, [sp], #4`; other jumps to an address that is read are indirect.
+/// What an instruction at an address is to the flow of its function.
+///
+/// `next` is false only where it surely jumps, returns or ends: where its condition is "always", and it is no call.
+/// Returns are `bx lr`, `mov pc, lr`, a block transfer from sp that loads pc, and `ldr pc, [sp], #4`; other jumps to an
+/// address that is read are indirect.
 pub fn flow(insn: &Insn, addr: u32) -> FlowKind
     requires { IsValid insn.now }
     ensures value { result ≡ flow_of (word_of insn.now) addr }

@@ -7,8 +7,8 @@ ghost use Rattle.arm_code.specs.Flows.{adds_before};
 pub enum Operand {
     /// Eight bits, rotated right by twice `rot`, which is below 16.
     Imm { value: u8, rot: u8 },
-    /// A register, shifted by `amount`, which is below 32; kinds are lsl, lsr, asr and ror, 0 to 3. An amount of 0 stands
-    /// for 32 at lsr and asr, and at ror for a rotation by one through the carry.
+    /// A register, shifted by `amount`, which is below 32; kinds are lsl, lsr, asr and ror, 0 to 3. An amount of 0
+    /// stands for 32 at lsr and asr, and at ror for a rotation by one through the carry.
     Shift { rm: u8, kind: u8, amount: u8 },
     /// A register, shifted by the lowest byte of the register `rs`.
     ByReg { rm: u8, kind: u8, rs: u8 },
@@ -88,8 +88,8 @@ impl Index {
     }
 }
 
-/// What an instruction does, with its fields as they stand in the word. Registers are numbers below 16; `up` says that an
-/// offset is added, and not subtracted.
+/// What an instruction does, with its fields as they stand in the word. Registers are numbers below 16; `up` says that
+/// an offset is added, and not subtracted.
 #[derive(Clone, Copy, Debug, PartialEq, Eq)]
 pub enum Op {
     /// Data processing: `op` is the opcode, `s` says that flags are set.

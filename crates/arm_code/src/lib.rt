@@ -12,8 +12,6 @@ mod insn;
 mod reading;
 mod rows;
 mod settings;
-#[cfg(test)]
-mod tests;
 
 pub use bits::field;
 pub use codes::{ALWAYS, LR, PC, SP};

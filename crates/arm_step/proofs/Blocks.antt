@@ -118,3 +118,8 @@ bytes_more registers list n =
     sym (ap (flat_map (λ r. bytes_of_word (value_of registers r))) (listed_more list n)
     ∙ flat_map-append (λ r. bytes_of_word (value_of registers r)) (listed_below n list) (cond (is_in list n) (n ∷ []) [])
     ∙ ap (λ xs. bytes_below registers list n ++ xs) (bytes_if registers (is_in list n) n))
+
+-- what the loop that loads a list goes through, and the loop that puts its bytes together
+pub ruleset loading = (loaded_more, place_more, loaded_all, none_loaded, first_place)
+
+pub ruleset gathering = (bytes_more, no_bytes, all_bytes)

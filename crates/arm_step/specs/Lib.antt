@@ -2,3 +2,4 @@ pub mod Cpu
 pub mod Ranges
 pub mod Effects
 pub mod Blocks
+pub mod Stores

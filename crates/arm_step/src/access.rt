@@ -85,7 +85,9 @@ fn meets_slow_region(machine: &Machine, addr: u32, count: u32) -> bool
 
 /// Whether an access meets a segment that holds code.
 fn meets_code_segment(image: &Image, addr: u32, count: u32) -> bool
-    ensures { result ≡ list_any (λ segment. segment.code && any_byte addr count (λ address. spans address segment)) image.now.segments }
+    ensures { result
+        ≡ list_any (λ segment. segment.code && any_byte addr count
+        (λ address. spans address segment)) image.now.segments }
 {
     image.segments.as_slice().iter().any(|segment| segment.code
         && meets_segment(segment, addr, count))

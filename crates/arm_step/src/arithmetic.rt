@@ -1,5 +1,5 @@
-//! What data processing and multiplications compute. ARM Architecture Reference Manual, "Data-processing instructions" and
-//! "Multiply instructions".
+//! What data processing and multiplications compute. ARM Architecture Reference Manual, "Data-processing instructions"
+//! and "Multiply instructions".
 
 ghost use Rattle.std.specs.Prelude.{◌≡◌};
 ghost use Rattle.wx_base.specs.Bits.{inverted};

@@ -9,6 +9,7 @@ ghost use Rattle.wx_base.specs.Transfer.{listed_below, block_size, moved_block_b
 ghost use Rattle.arm_step.specs.Cpu.{held, registers_of, flags_in, state_of};
 ghost use Rattle.arm_step.specs.Blocks.{bytes_at};
 ghost use Rattle.arm_step.specs.Effects.{outcome_of, GoesOn, Keeps, StopsAt};
+ghost use Rattle.arm_step.specs.Stores.{NeedsRoom, WhereNext, stored_by_block, with_stored};
 
 use crate::access::{is_slow_access, meets_code, word_at};
 use crate::cpu::{Cpu, next_address, register, set, value_of};
@@ -85,7 +86,9 @@ fn load_one(
     addr: u32,
 ) -> u32
     requires { register < 16 }
-    ensures registers { registers_of regs.new ≡ (if is_in list register then replaced (registers_of regs.old) register (word_in (held image.now memory.now) addr) else registers_of regs.old) }
+    ensures registers { registers_of regs.new
+        ≡ (if is_in list register then replaced (registers_of regs.old) register
+        (word_in (held image.now memory.now) addr) else registers_of regs.old) }
     ensures next { result ≡ (if is_in list register then add_words addr 4 else addr) }
 {
     if is_listed(list, register) {
@@ -97,7 +100,7 @@ fn load_one(
 }
 
 /// Loads the registers of a list from an address on.
-#[tactic(auto, using(crate::proofs::Blocks::loaded_more, crate::proofs::Blocks::place_more, crate::proofs::Blocks::loaded_all, crate::proofs::Blocks::none_loaded, crate::proofs::Blocks::first_place))]
+#[tactic(auto, using(crate::proofs::Blocks::loading))]
 fn load_all(regs: &mut [u32; 16], memory: &Memory, image: &Image, list: u16, first: u32)
     ensures { registers_of regs.new ≡ block_loaded (registers_of regs.old) (held image.now memory.now) list first }
 {
@@ -121,7 +124,7 @@ fn push_one(bytes: &mut ArrayVec<u8, 64>, regs: &[u32; 16], list: u16, register:
 }
 
 /// The bytes of the registers of a list.
-#[tactic(auto, using(crate::proofs::Blocks::bytes_more, crate::proofs::Blocks::no_bytes, crate::proofs::Blocks::all_bytes))]
+#[tactic(auto, using(crate::proofs::Blocks::gathering))]
 fn bytes_of(regs: &[u32; 16], list: u16) -> ArrayVec<u8, 64>
     ensures { result.items ≡ block_bytes (registers_of regs.now) list }
 {
@@ -135,7 +138,9 @@ fn bytes_of(regs: &[u32; 16], list: u16) -> ArrayVec<u8, 64>
 /// Loads the block.
 fn load(cpu: &mut Cpu, image: &Image, t: &BlockTransfer, first: u32)
     requires { t.now.base < 16 }
-    ensures registers { registers_of cpu.new.regs ≡ block_loaded (registers_behind_block (registers_of cpu.old.regs) t.now) (held image.now cpu.old.memory) t.now.list first }
+    ensures registers { registers_of cpu.new.regs
+        ≡ block_loaded (registers_behind_block (registers_of cpu.old.regs) t.now)
+        (held image.now cpu.old.memory) t.now.list first }
     ensures flags { flags_in cpu.new ≡ flags_in cpu.old }
     ensures memory { cpu.new.memory ≡ cpu.old.memory }
 {
@@ -146,10 +151,20 @@ fn load(cpu: &mut Cpu, image: &Image, t: &BlockTransfer, first: u32)
 /// Stores the block.
 fn store(cpu: &mut Cpu, t: &BlockTransfer, first: u32) -> Result<(), NoMemory>
     requires { t.now.base < 16 }
-    ensures registers { OnOk result (registers_of cpu.new.regs ≡ registers_behind_block (registers_of cpu.old.regs) t.now) }
+    ensures registers { OnOk result (registers_of cpu.new.regs
+        ≡ registers_behind_block (registers_of cpu.old.regs) t.now) }
     ensures flags { flags_in cpu.new ≡ flags_in cpu.old }
-    ensures memory { OnOk result ((image : Image) → held image cpu.new.memory ≡ overwritten (held image cpu.old.memory) first (block_bytes (registers_of cpu.old.regs) t.now.list)) }
+    ensures memory { OnOk result ((image : Image) → held image cpu.new.memory
+        ≡ overwritten (held image cpu.old.memory) first (block_bytes (registers_of cpu.old.regs) t.now.list)) }
+    ensures stored { OnOk result (cpu.new.memory ≡ with_stored cpu.old.memory (record {
+      first = first;
+      bytes = block_bytes (registers_of cpu.old.regs) t.now.list;
+    })) }
     ensures refused { OnErr result (cpu.new ≡ cpu.old) }
+    ensures absent { OnErr result (NeedsRoom cpu.old.memory (record {
+      first = first;
+      bytes = block_bytes (registers_of cpu.old.regs) t.now.list;
+    })) }
 {
     let bytes = bytes_of(&cpu.regs, t.list);
     cpu.memory.write_many(first, bytes.as_slice())?;
@@ -166,12 +181,16 @@ pub(crate) fn block(
     t: &BlockTransfer,
 ) -> Result<StepEnd, NoMemory>
     requires { t.now.base < 16 }
-    ensures effect { IfOk result (λ end. outcome_of image.now cpu.new end ≡ block_effect machine.now image.now (state_of image.now cpu.old) t.now) }
+    ensures effect { IfOk result (λ end. outcome_of image.now cpu.new end
+        ≡ block_effect machine.now image.now (state_of image.now cpu.old) t.now) }
     ensures kept { IfOk result (λ end. Keeps end cpu.old cpu.new) }
     ensures place { IfOk result (λ end. StopsAt (registers_of cpu.old.regs pc) end) }
     ensures starved { OnErr result (GoesOn (block_effect machine.now image.now (state_of image.now cpu.old) t.now)) }
     ensures storing { OnErr result (t.now.load ≡ false) }
     ensures quiet { t.now.load ≡ true → cpu.new.memory ≡ cpu.old.memory }
+    ensures stored { IfOk result (λ end. WhereNext end (cpu.new.memory
+        ≡ with_stored cpu.old.memory (stored_by_block (registers_of cpu.old.regs) t.now))) }
+    ensures absent { OnErr result (NeedsRoom cpu.old.memory (stored_by_block (registers_of cpu.old.regs) t.now)) }
     ensures refused { OnErr result (cpu.new ≡ cpu.old) }
 {
     let here = register(&cpu.regs, PC);

@@ -23,7 +23,8 @@ use wx_base::Shifted;
 
 /// Goes on behind the instruction, and does nothing else.
 pub(crate) fn skip(cpu: &mut Cpu)
-    ensures registers { registers_of cpu.new.regs ≡ replaced (registers_of cpu.old.regs) pc (next_address (registers_of cpu.old.regs)) }
+    ensures registers { registers_of cpu.new.regs
+        ≡ replaced (registers_of cpu.old.regs) pc (next_address (registers_of cpu.old.regs)) }
     ensures flags { flags_in cpu.new ≡ flags_in cpu.old }
     ensures memory { cpu.new.memory ≡ cpu.old.memory }
 {
@@ -40,7 +41,8 @@ pub(crate) fn shift_operand(cpu: &Cpu, rm: u8, kind: u8, amount: u8) -> Shifted
 
 /// A register shifted by another.
 fn register_operand(cpu: &Cpu, rm: u8, kind: u8, rs: u8) -> Shifted
-    ensures { result ≡ shifted_by_register kind (registers_of cpu.now.regs rm) (registers_of cpu.now.regs rs) cpu.now.c }
+    ensures { result
+        ≡ shifted_by_register kind (registers_of cpu.now.regs rm) (registers_of cpu.now.regs rs) cpu.now.c }
 {
     shifted_by_register(
         kind,
@@ -65,8 +67,11 @@ pub(crate) fn operand_of(cpu: &Cpu, operand: Operand) -> Shifted
 /// Data processing, with its second operand.
 pub(crate) fn alu(cpu: &mut Cpu, code: u8, sets: bool, first: u8, to: u8, second: Shifted)
     requires { to < 16 }
-    ensures registers { registers_of cpu.new.regs ≡ replaced (alu_registers (registers_of cpu.old.regs) code to (computed code (value_of (registers_of cpu.old.regs) first) second (flags_in cpu.old)).value) pc (next_address (registers_of cpu.old.regs)) }
-    ensures flags { flags_in cpu.new ≡ alu_flags (flags_in cpu.old) sets (computed code (value_of (registers_of cpu.old.regs) first) second (flags_in cpu.old)) }
+    ensures registers { let old = registers_of cpu.old.regs in
+        let value = (computed code (value_of old first) second (flags_in cpu.old)).value in
+        registers_of cpu.new.regs ≡ replaced (alu_registers old code to value) pc (next_address old) }
+    ensures flags { let first = value_of (registers_of cpu.old.regs) first in
+        flags_in cpu.new ≡ alu_flags (flags_in cpu.old) sets (computed code first second (flags_in cpu.old)) }
     ensures memory { cpu.new.memory ≡ cpu.old.memory }
 {
     let next = next_address(&cpu.regs);
@@ -88,26 +93,31 @@ fn product_in(regs: &[u32; 16], accumulate: bool, added: u8, factor: u8, multipl
     product_of(register(regs, factor), register(regs, multiplier), added)
 }
 
+/// The registers of a multiplication: of the result, of what is added, and of the two factors.
+#[derive(Clone, Copy)]
+pub(crate) struct ShortRegisters {
+    pub to: u8,
+    pub added: u8,
+    pub factor: u8,
+    pub multiplier: u8,
+}
+
 /// A multiplication, and whether it is slow.
-pub(crate) fn mul(
-    cpu: &mut Cpu,
-    accumulate: bool,
-    sets: bool,
-    to: u8,
-    added: u8,
-    factor: u8,
-    multiplier: u8,
-) -> bool
-    requires { to < 16 }
-    ensures registers { registers_of cpu.new.regs ≡ replaced (replaced (registers_of cpu.old.regs) to (product_in (registers_of cpu.old.regs) accumulate added factor multiplier)) pc (next_address (registers_of cpu.old.regs)) }
-    ensures flags { flags_in cpu.new ≡ (if sets then product_flags (is_negative (product_in (registers_of cpu.old.regs) accumulate added factor multiplier)) (product_in (registers_of cpu.old.regs) accumulate added factor multiplier == 0) (flags_in cpu.old) else flags_in cpu.old) }
+pub(crate) fn mul(cpu: &mut Cpu, accumulate: bool, sets: bool, of: ShortRegisters) -> bool
+    requires { of.to < 16 }
+    ensures registers { let old = registers_of cpu.old.regs in
+        let product = product_in old accumulate of.added of.factor of.multiplier in
+        registers_of cpu.new.regs ≡ replaced (replaced old of.to product) pc (next_address old) }
+    ensures flags { let product = product_in (registers_of cpu.old.regs) accumulate of.added of.factor of.multiplier in
+        flags_in cpu.new ≡ (if sets then product_flags (is_negative product) (product == 0) (flags_in cpu.old)
+        else flags_in cpu.old) }
     ensures memory { cpu.new.memory ≡ cpu.old.memory }
-    ensures slow { result ≡ is_slow_factor (registers_of cpu.old.regs multiplier) }
+    ensures slow { result ≡ is_slow_factor (registers_of cpu.old.regs of.multiplier) }
 {
     let next = next_address(&cpu.regs);
-    let slow = is_slow_factor(register(&cpu.regs, multiplier));
-    let product = product_in(&cpu.regs, accumulate, added, factor, multiplier);
-    set(&mut cpu.regs, to, product);
+    let slow = is_slow_factor(register(&cpu.regs, of.multiplier));
+    let product = product_in(&cpu.regs, accumulate, of.added, of.factor, of.multiplier);
+    set(&mut cpu.regs, of.to, product);
     set(&mut cpu.regs, PC, next);
     if sets {
         cpu.set_flags(product_flags(is_negative(product), product == 0, cpu.flags()));
@@ -161,8 +171,13 @@ pub(crate) fn mul_long(
 ) -> bool
     requires hi { of.hi < 16 }
     requires lo { of.lo < 16 }
-    ensures registers { registers_of cpu.new.regs ≡ replaced (long_registers (registers_of cpu.old.regs) of.hi of.lo (long_product_in (registers_of cpu.old.regs) signed accumulate of.hi of.lo of.factor of.multiplier)) pc (next_address (registers_of cpu.old.regs)) }
-    ensures flags { flags_in cpu.new ≡ (if sets then product_flags (is_in (long_product_in (registers_of cpu.old.regs) signed accumulate of.hi of.lo of.factor of.multiplier) 63) (long_product_in (registers_of cpu.old.regs) signed accumulate of.hi of.lo of.factor of.multiplier == 0) (flags_in cpu.old) else flags_in cpu.old) }
+    ensures registers { let old = registers_of cpu.old.regs in
+        let product = long_product_in old signed accumulate of.hi of.lo of.factor of.multiplier in
+        registers_of cpu.new.regs ≡ replaced (long_registers old of.hi of.lo product) pc (next_address old) }
+    ensures flags { let old = registers_of cpu.old.regs in
+        let product = long_product_in old signed accumulate of.hi of.lo of.factor of.multiplier in
+        flags_in cpu.new ≡ (if sets then product_flags (is_in product 63) (product == 0) (flags_in cpu.old)
+        else flags_in cpu.old) }
     ensures memory { cpu.new.memory ≡ cpu.old.memory }
     ensures slow { result ≡ is_slow_factor (registers_of cpu.old.regs of.multiplier) }
 {
@@ -182,7 +197,8 @@ pub(crate) fn mul_long(
 
 /// A jump; a call leaves the address behind it in the link register.
 pub(crate) fn jump(cpu: &mut Cpu, linked: bool, target: u32)
-    ensures registers { registers_of cpu.new.regs ≡ replaced (if linked then replaced (registers_of cpu.old.regs) lr (next_address (registers_of cpu.old.regs)) else registers_of cpu.old.regs) pc target }
+    ensures registers { let old = registers_of cpu.old.regs in
+        registers_of cpu.new.regs ≡ replaced (if linked then replaced old lr (next_address old) else old) pc target }
     ensures flags { flags_in cpu.new ≡ flags_in cpu.old }
     ensures memory { cpu.new.memory ≡ cpu.old.memory }
 {

@@ -6,18 +6,22 @@ ghost use Rattle.wx_base.specs.Step.{current_word, step};
 ghost use Rattle.arm_code.specs.Encoding.{decoded};
 ghost use Rattle.arm_step.specs.Cpu.{registers_of, state_of};
 ghost use Rattle.arm_step.specs.declared.step_end.StepEnd.TheVariants.{Next};
+ghost use Rattle.arm_step.specs.Stores.{NeedsRoom, WhereNext, stored_by, stored_bytes, stores_now, with_stored};
 ghost use Rattle.arm_step.specs.Effects.{OpFits, op_effect, offset_value, half_offset_value, half_datum_of, single_datum, transfer_of, stores, outcome_of, GoesOn, Keeps, StopsAt};
 
 use crate::access::word_at;
 use crate::arithmetic::passes;
 use crate::block::block;
 use crate::cpu::{Cpu, register};
-use crate::effects::{LongRegisters, alu, jump, mul, mul_long, operand_of, shift_operand, skip};
+use crate::effects::{
+    LongRegisters, ShortRegisters, alu, jump, mul, mul_long, operand_of, shift_operand, skip,
+};
 use crate::step_end::StepEnd;
 use crate::transfer::transfer;
 use arm_code::{
     HalfKind, HalfOffset, Index, LR, Offset, Op, PC, decode, offset_target, offsets_give_targets,
 };
+use std::alloc::Global;
 use wx_base::{BlockTransfer, Datum, Image, Machine, NoMemory, Transfer, Why};
 
 /// The value of an offset.
@@ -78,12 +82,16 @@ fn jumped() -> StepEnd
 /// Executes an operation whose condition holds.
 fn execute(cpu: &mut Cpu, image: &Image, machine: &Machine, op: Op) -> Result<StepEnd, NoMemory>
     requires { OpFits op }
-    ensures effect { IfOk result (λ end. outcome_of image.now cpu.new end ≡ op_effect machine.now image.now (state_of image.now cpu.old) op) }
+    ensures effect { IfOk result (λ end. outcome_of image.now cpu.new end
+        ≡ op_effect machine.now image.now (state_of image.now cpu.old) op) }
     ensures kept { IfOk result (λ end. Keeps end cpu.old cpu.new) }
     ensures place { IfOk result (λ end. StopsAt (registers_of cpu.old.regs pc) end) }
     ensures starved { OnErr result (GoesOn (op_effect machine.now image.now (state_of image.now cpu.old) op)) }
     ensures storing { OnErr result (stores op ≡ true) }
     ensures quiet { stores op ≡ false → cpu.new.memory ≡ cpu.old.memory }
+    ensures stored { IfOk result (λ end. WhereNext end (cpu.new.memory
+        ≡ with_stored cpu.old.memory (stored_by (state_of image.now cpu.old) op))) }
+    ensures absent { OnErr result (NeedsRoom cpu.old.memory (stored_by (state_of image.now cpu.old) op)) }
     ensures refused { OnErr result (cpu.new ≡ cpu.old) }
 {
     match op {
@@ -106,7 +114,13 @@ fn execute(cpu: &mut Cpu, image: &Image, machine: &Machine, op: Op) -> Result<St
             rs,
             rm,
         } => {
-            let slow = mul(cpu, accumulate, s, rd, rn, rm, rs);
+            let of = ShortRegisters {
+                to: rd,
+                added: rn,
+                factor: rm,
+                multiplier: rs,
+            };
+            let slow = mul(cpu, accumulate, s, of);
             Ok(went_on(slow))
         }
         Op::MulLong {
@@ -207,21 +221,37 @@ fn execute(cpu: &mut Cpu, image: &Image, machine: &Machine, op: Op) -> Result<St
 
 /// One step of the machine: looks at the instruction at pc, and executes it if its condition holds.
 ///
-/// It stops, and leaves `cpu` as it was, where pc is not the address of a word of code, the word is no instruction, an
-/// access to data is not aligned, or a byte of code would be stored; the first of these decides. `Ended` comes exactly
-/// for a call of the supervisor whose condition holds, and leaves `cpu` as it was.
+/// It stops, and leaves `cpu` as it was, where pc is not the address of a word of code, the word is no instruction,
+/// an access to data is not aligned, or a byte of code would be stored; the first of these decides. `Ended` comes
+/// exactly for a call of the supervisor whose condition holds, and leaves `cpu` as it was.
 ///
-/// A step that does not store takes no memory. It looks through the image's segments for each byte that it reads, and
-/// through the machine's regions for an access to data.
+/// An instruction stores exactly its bytes, none where its condition fails. It looks through the image's segments for
+/// each byte that it reads, and through the machine's regions for an access to data.
 ///
-/// `NoMemory` where there is no room for what would be stored; then `cpu` is as it was. It comes of no step that stops.
-pub fn step(cpu: &mut Cpu, image: &Image, machine: &Machine) -> Result<StepEnd, NoMemory>
-    ensures outcome { IfOk result (λ end. outcome_of image.now cpu.new end ≡ step machine.now image.now (state_of image.now cpu.old)) }
+/// `NoMemory` where there is no room for what would be stored, at an address that was never written; then `cpu` is as
+/// it was. It comes of no step that stops, and of none that stores nothing.
+pub fn step(
+    _alloc: Global,
+    cpu: &mut Cpu,
+    image: &Image,
+    machine: &Machine,
+) -> Result<StepEnd, NoMemory>
+    ensures outcome { IfOk result (λ end. outcome_of image.now cpu.new end
+        ≡ step machine.now image.now (state_of image.now cpu.old)) }
     ensures kept { IfOk result (λ end. Keeps end cpu.old cpu.new) }
     ensures place { IfOk result (λ end. StopsAt (registers_of cpu.old.regs pc) end) }
     ensures starved { OnErr result (GoesOn (step machine.now image.now (state_of image.now cpu.old))) }
-    ensures storing { OnErr result (MatchOption (decoded (current_word (state_of image.now cpu.old))) ⊥ (λ insn. stores insn.op ≡ true)) }
-    ensures quiet { MatchOption (decoded (current_word (state_of image.now cpu.old))) (cpu.new.memory ≡ cpu.old.memory) (λ insn. stores insn.op ≡ false → cpu.new.memory ≡ cpu.old.memory) }
+    ensures storing { OnErr result (MatchOption (decoded (current_word (state_of image.now cpu.old))) ⊥
+        (λ insn. stores_now (state_of image.now cpu.old) insn ≡ true)) }
+    ensures quiet { MatchOption (decoded (current_word (state_of image.now cpu.old))) (cpu.new.memory
+        ≡ cpu.old.memory) (λ insn. stores_now (state_of image.now cpu.old) insn ≡ false
+        → cpu.new.memory ≡ cpu.old.memory) }
+    // Exactly the bytes that the instruction stores are written.
+    ensures stored { IfOk result (λ end. WhereNext end
+        (MatchOption (decoded (current_word (state_of image.now cpu.old))) ⊥ (λ insn. cpu.new.memory
+        ≡ with_stored cpu.old.memory (stored_bytes (state_of image.now cpu.old) insn)))) }
+    ensures absent { OnErr result (MatchOption (decoded (current_word (state_of image.now cpu.old))) ⊥
+        (λ insn. NeedsRoom cpu.old.memory (stored_bytes (state_of image.now cpu.old) insn))) }
     ensures refused { OnErr result (cpu.new ≡ cpu.old) }
 {
     let addr = register(&cpu.regs, PC);

@@ -9,8 +9,6 @@ mod effects;
 mod execution;
 mod shifter;
 mod step_end;
-#[cfg(test)]
-mod tests;
 mod transfer;
 
 pub use cpu::Cpu;

@@ -7,6 +7,7 @@ ghost use Rattle.wx_base.specs.Transfer.{moved, size_of, extended_from, loaded, 
 ghost use Rattle.wx_base.specs.declared.image.Image.{Image};
 ghost use Rattle.arm_step.specs.Cpu.{held, registers_of, flags_in, state_of};
 ghost use Rattle.arm_step.specs.Effects.{outcome_of, GoesOn, Keeps, StopsAt};
+ghost use Rattle.arm_step.specs.Stores.{NeedsRoom, WhereNext, stored_by_transfer, with_stored};
 
 use crate::access::{byte_at, half_at, is_slow_access, meets_code, word_at};
 use crate::cpu::{Cpu, next_address, register, set, value_of};
@@ -102,7 +103,9 @@ fn move_on(regs: &mut [u32; 16], t: &Transfer)
 fn load(cpu: &mut Cpu, image: &Image, t: &Transfer, addr: u32)
     requires base { t.now.base < 16 }
     requires register { t.now.register < 16 }
-    ensures registers { registers_of cpu.new.regs ≡ replaced (registers_behind (registers_of cpu.old.regs) t.now) t.now.register (loaded t.now.datum (held image.now cpu.old.memory) addr) }
+    ensures registers { registers_of cpu.new.regs
+        ≡ replaced (registers_behind (registers_of cpu.old.regs) t.now) t.now.register
+        (loaded t.now.datum (held image.now cpu.old.memory) addr) }
     ensures flags { flags_in cpu.new ≡ flags_in cpu.old }
     ensures memory { cpu.new.memory ≡ cpu.old.memory }
 {
@@ -116,8 +119,20 @@ fn store(cpu: &mut Cpu, t: &Transfer, addr: u32) -> Result<(), NoMemory>
     requires { t.now.base < 16 }
     ensures registers { OnOk result (registers_of cpu.new.regs ≡ registers_behind (registers_of cpu.old.regs) t.now) }
     ensures flags { flags_in cpu.new ≡ flags_in cpu.old }
-    ensures memory { OnOk result ((image : Image) → held image cpu.new.memory ≡ overwritten (held image cpu.old.memory) addr (take (size_of t.now.datum) (bytes_of_word (value_of (registers_of cpu.old.regs) t.now.register)))) }
+    ensures memory { OnOk result ((image : Image) → held image cpu.new.memory
+        ≡ overwritten (held image cpu.old.memory) addr (take (size_of t.now.datum)
+        (bytes_of_word (value_of (registers_of cpu.old.regs) t.now.register)))) }
+    ensures stored { OnOk result (cpu.new.memory ≡ with_stored cpu.old.memory (record {
+      first = addr;
+      bytes = take (size_of t.now.datum)
+          (bytes_of_word (value_of (registers_of cpu.old.regs) t.now.register));
+    })) }
     ensures refused { OnErr result (cpu.new ≡ cpu.old) }
+    ensures absent { OnErr result (NeedsRoom cpu.old.memory (record {
+      first = addr;
+      bytes = take (size_of t.now.datum)
+          (bytes_of_word (value_of (registers_of cpu.old.regs) t.now.register));
+    })) }
 {
     let bytes = value_of(&cpu.regs, t.register).to_le_bytes();
     let size = size_of(t.datum) as usize;
@@ -136,12 +151,16 @@ pub(crate) fn transfer(
 ) -> Result<StepEnd, NoMemory>
     requires base { t.now.base < 16 }
     requires register { t.now.register < 16 }
-    ensures effect { IfOk result (λ end. outcome_of image.now cpu.new end ≡ transfer_effect machine.now image.now (state_of image.now cpu.old) t.now) }
+    ensures effect { IfOk result (λ end. outcome_of image.now cpu.new end
+        ≡ transfer_effect machine.now image.now (state_of image.now cpu.old) t.now) }
     ensures kept { IfOk result (λ end. Keeps end cpu.old cpu.new) }
     ensures place { IfOk result (λ end. StopsAt (registers_of cpu.old.regs pc) end) }
     ensures starved { OnErr result (GoesOn (transfer_effect machine.now image.now (state_of image.now cpu.old) t.now)) }
     ensures storing { OnErr result (t.now.load ≡ false) }
     ensures quiet { t.now.load ≡ true → cpu.new.memory ≡ cpu.old.memory }
+    ensures stored { IfOk result (λ end. WhereNext end (cpu.new.memory
+        ≡ with_stored cpu.old.memory (stored_by_transfer (registers_of cpu.old.regs) t.now))) }
+    ensures absent { OnErr result (NeedsRoom cpu.old.memory (stored_by_transfer (registers_of cpu.old.regs) t.now)) }
     ensures refused { OnErr result (cpu.new ≡ cpu.old) }
 {
     let here = register(&cpu.regs, PC);

@@ -4,7 +4,7 @@ use Rattle.std.proofs.lemmas.List.{append-nil, append_assoc, append_cancel_right
 use Rattle.std.proofs.lemmas.Str.Parse.{tells_digits}
 use Rattle.std.proofs.lemmas.Fmt.{decimal_is_IsNumeral}
 use Rattle.std.specs.Str.Parse.{AllDigits}
-use Rattle.wx_base.specs.Decimal.{decimal}
+use Rattle.wx_text.specs.Decimal.{decimal}
 use Rattle.arm_code.specs.declared.insn.Index.{Index}
 use Rattle.arm_code.specs.declared.insn.Index.TheVariants.{Plain, Pre, Post}
 use Rattle.arm_text.specs.Names.{register_name}

@@ -1,8 +1,6 @@
 mod AddressParts
-mod Decimals
+mod Below
 mod Distinct
-mod FromStart
-mod HexDigits
 mod Listed
 mod Named
 mod OneName

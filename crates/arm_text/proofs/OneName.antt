@@ -3,20 +3,12 @@ use Rattle.std.proofs.Common.{◌≡◌, ℕ, ◌+◌, ◌<◌, Bool, true, List
 use Rattle.std.specs.Prelude.{position, unwrap_or}
 use Rattle.std.specs.List.{Contains, list_all, range_with_len}
 use Rattle.std.specs.Str.{bytes_eq}
-use Rattle.std.proofs.lemmas.List.Sums.{AllPass-from_list_all}
-use Rattle.std.proofs.lemmas.List.FromFn.{get_or-range_with_len, length-range_with_len}
 use Rattle.std.proofs.lemmas.Bool.{eqb-true}
 use Rattle.std.proofs.lemmas.List.{append-nil, get_or_default, take_at, drop_at}
 use Rattle.arm_text.specs.declared.mnemonics.Name.{Name}
 use Rattle.arm_text.specs.Names.{condition_suffix}
 use Rattle.arm_text.specs.Mnemonics.{names, name_text}
-
--- what a test says of each number below a bound
-pub below_all : (test : ℕ → Bool) (n : ℕ) → list_all test (range_with_len 0 n) ≡ true → (k : ℕ) → k < n → test k ≡ true
-below_all test n all k below =
-    let inside : k < length (range_with_len 0 n) = subst (λ m. k < m) (sym (length-range_with_len 0 n)) below in
-    let there : get_or (range_with_len 0 n) k 0 ≡ k = get_or-range_with_len 0 n k 0 below ∙ omega arith in
-    subst (λ m. test m ≡ true) there (AllPass-from_list_all test (range_with_len 0 n) all k 0 inside)
+use Rattle.arm_text.proofs.Below.{below_all}
 
 -- the number of the name that a text is
 abbrev pub number_of : List ℕ → Option ℕ

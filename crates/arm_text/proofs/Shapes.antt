@@ -7,7 +7,7 @@ use Rattle.std.proofs.lemmas.Str.Parse.{tells_digits}
 use Rattle.std.proofs.lemmas.Fmt.{decimal_is_IsNumeral}
 use Rattle.std.specs.Option.{option_map}
 use Rattle.std.specs.Str.Parse.{AllDigits, digits_value}
-use Rattle.wx_base.specs.Decimal.{decimal}
+use Rattle.wx_text.specs.Decimal.{decimal}
 use Rattle.arm_text.specs.Names.{register_name, shift_name}
 use Rattle.arm_text.specs.Text.{further, numeral, rotated, is_least_rotation, immediate_text, shift_text, shifted_text, by_register_text}
 use Rattle.arm_text.specs.Mnemonics.{is_without}

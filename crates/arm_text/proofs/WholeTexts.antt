@@ -1,11 +1,11 @@
 -- The text of an instruction is its mnemonic, a space and its operands.
-use Rattle.std.proofs.Common.{◌≡◌, ℕ, zero, suc, ◌<◌, Bool, true, false, List, ◌∷◌, ◌++◌, get_or, refl, sym, ◌∙◌, ap, arith}
+use Rattle.std.proofs.Common.{◌≡◌, ℕ, zero, suc, ◌<◌, Bool, true, false, List, [], ◌∷◌, ◌++◌, get_or, refl, sym, ◌∙◌, ap, arith}
 use Rattle.std.proofs.lemmas.List.{append_assoc}
 use Rattle.std.specs.List.{Contains, list_all, range_with_len}
 use Rattle.std.specs.Option.{option_map}
 use Rattle.std.proofs.Common.{Option, Some, None}
 use Rattle.wx_base.specs.Instruction.{is_compare}
-use Rattle.arm_text.proofs.OneName.{below_all}
+use Rattle.arm_text.proofs.Below.{below_all}
 use Rattle.arm_code.specs.declared.insn.Insn.{Insn}
 use Rattle.arm_code.specs.declared.insn.HalfKind.TheVariants.{Ldrh, Strh, Ldrsb, Ldrsh}
 use Rattle.arm_code.specs.declared.insn.Op.{Op}
@@ -33,6 +33,16 @@ op_text_is address suffix op.MovPcLr = simp append_assoc
 pub text_is : (address : ℕ) (insn : Insn) → text_of address insn ≡ name_text (name_of insn.op) ++ condition_suffix insn.cond ++ 32 ∷ operands_text address insn.op
 unfolding text_of
 text_is address insn = op_text_is address (condition_suffix insn.cond) insn.op
+
+-- a text that was put together from these parts
+pub text_in_parts : (address : ℕ) (insn : Insn) (empty first suffix second space third whole : List ℕ) → empty ≡ []
+    → first ≡ empty ++ name_text (name_of insn.op) → suffix ≡ condition_suffix insn.cond → second ≡ first ++ suffix
+    → space ≡ 32 ∷ [] → third ≡ second ++ space → whole ≡ third ++ operands_text address insn.op → whole ≡ text_of address insn
+text_in_parts address insn empty first suffix second space third whole nothing at_first conditional at_second one at_third in_all =
+    let name : List ℕ = name_text (name_of insn.op) in
+    let parts : whole ≡ ((([] ++ name) ++ condition_suffix insn.cond) ++ 32 ∷ []) ++ operands_text address insn.op = cc in
+    parts ∙ append_assoc (name ++ condition_suffix insn.cond) (32 ∷ []) (operands_text address insn.op)
+    ∙ sym (text_is address insn)
 
 -- the names of data processing, by their places in the table
 alu_named : (code : ℕ) (flags : Bool) → code < 16 → (is_compare code ≡ true → flags ≡ true) → Contains names (name.Alu code flags)

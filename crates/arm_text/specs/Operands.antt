@@ -1,7 +1,7 @@
 -- The text of an instruction in two parts: the name of its operation, and its operands.
 use Rattle.std.specs.Prelude.{ℕ, Bool, false, List, ◌++◌, codes}
-use Rattle.wx_base.specs.Decimal.{decimal}
-use Rattle.wx_base.specs.Hexadecimal.{hex_word}
+use Rattle.wx_text.specs.Decimal.{decimal}
+use Rattle.wx_text.specs.Hexadecimal.{hex_word}
 use Rattle.arm_code.specs.Flows.{offset_target}
 use Rattle.arm_code.specs.declared.insn.Op.{Op}
 use Rattle.arm_code.specs.declared.insn.Op.TheVariants as op

@@ -5,8 +5,8 @@ use Rattle.std.specs.Int.{w32, rotate_left, rotate_right}
 use Rattle.std.specs.List.{list_any, range_with_len, flat_map}
 use Rattle.wx_base.specs.Bits.{is_in}
 use Rattle.wx_base.specs.Instruction.{is_compare, is_move}
-use Rattle.wx_base.specs.Decimal.{decimal}
-use Rattle.wx_base.specs.Hexadecimal.{hex_word}
+use Rattle.wx_text.specs.Decimal.{decimal}
+use Rattle.wx_text.specs.Hexadecimal.{hex_word}
 use Rattle.arm_code.specs.Flows.{offset_target}
 use Rattle.arm_code.specs.declared.insn.Insn.{Insn}
 use Rattle.arm_code.specs.declared.insn.Op.{Op}

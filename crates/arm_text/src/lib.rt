@@ -12,8 +12,6 @@ mod parts;
 mod printer;
 mod reader;
 mod reading;
-#[cfg(test)]
-mod tests;
 
 pub use error::Spelling;
 pub use printer::print_insn;

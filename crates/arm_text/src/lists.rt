@@ -9,8 +9,10 @@ use crate::parts::before;
 /// What stands before the last register of a list, if that is `register`.
 fn before_last(list: &[u8], register: u8) -> Option<&[u8]>
     requires { register < 16 }
-    ensures sound { IfSome result (λ rest. (lower : ℕ) → lower < 2 ^ register → rest.now ≡ list_text lower → list.now ≡ list_text (lower + 2 ^ register)) }
-    ensures complete { (lower : ℕ) → lower < 2 ^ register → list.now ≡ list_text (lower + 2 ^ register) → IsSomeAnd result (λ rest. rest.now ≡ list_text lower) }
+    ensures sound { IfSome result (λ rest. (lower : ℕ) → lower < 2 ^ register → rest.now ≡ list_text lower → list.now
+        ≡ list_text (lower + 2 ^ register)) }
+    ensures complete { (lower : ℕ) → lower < 2 ^ register → list.now ≡ list_text (lower + 2 ^ register)
+        → IsSomeAnd result (λ rest. rest.now ≡ list_text lower) }
     ensures none { (lower : ℕ) → lower < 2 ^ register → list.now ≡ list_text lower → result ≡ None }
 {
     let rest = before(list, register_name(register))?;

@@ -2,10 +2,10 @@
 
 ghost use Rattle.std.specs.Prelude.{◌≡◌, ◌≢◌, ◌<◌, ◌++◌, ℕ, List, IsTrue, ◌↔◌, IfSome, IsSomeAnd, Some, length, codes};
 ghost use Rattle.std.specs.List.{Contains};
-ghost use Rattle.arm_text.specs.Names.{condition_suffix, where_set, block_name};
+ghost use Rattle.arm_text.specs.Names.{condition_suffix, where_set};
 ghost use Rattle.arm_text.specs.Mnemonics.{names, name_text};
 
-use crate::names::{half_name, mul_long_name, mul_name, opcode_name, single_name};
+use crate::names::{block_name, half_name, mul_long_name, mul_name, opcode_name, single_name};
 use crate::parts::{behind, is, read_condition};
 use arm_code::{HalfKind, is_compare};
 
@@ -223,23 +223,6 @@ fn is_with_flags(text: &[u8], name: &[u8], s: bool) -> bool
     }
 }
 
-/// Whether a text is the name of a block transfer.
-fn is_block_name(text: &[u8], load: bool, before: bool, up: bool) -> bool
-    ensures { IsTrue result ↔ (text.now ≡ block_name load before up) }
-{
-    let name = match (load, before, up) {
-        (true, true, true) => b"ldmib".as_slice(),
-        (true, true, false) => b"ldmdb".as_slice(),
-        (true, false, true) => b"ldmia".as_slice(),
-        (true, false, false) => b"ldmda".as_slice(),
-        (false, true, true) => b"stmib".as_slice(),
-        (false, true, false) => b"stmdb".as_slice(),
-        (false, false, true) => b"stmia".as_slice(),
-        (false, false, false) => b"stmda".as_slice(),
-    };
-    is(text, name)
-}
-
 /// Whether a text is a name.
 fn spells(text: &[u8], name: Name) -> bool
     ensures { IsTrue result ↔ (text.now ≡ name_text name) }
@@ -254,7 +237,7 @@ fn spells(text: &[u8], name: Name) -> bool
         } => is_with_flags(text, mul_long_name(signed, accumulate), s),
         Name::Single { load, byte } => is(text, single_name(load, byte)),
         Name::Half { kind } => is(text, half_name(kind)),
-        Name::Block { load, before, up } => is_block_name(text, load, before, up),
+        Name::Block { load, before, up } => is(text, block_name(load, before, up)),
         Name::Branch { link: false } => is(text, b"b".as_slice()),
         Name::Branch { link: true } => is(text, b"bl".as_slice()),
         Name::Exchange { link: false } => is(text, b"bx".as_slice()),
@@ -278,8 +261,10 @@ fn read_name(text: &[u8]) -> Option<Name>
 
 /// The name and the condition that a text is. A condition other than "always" is its last two letters.
 pub(crate) fn read_mnemonic(text: &[u8]) -> Option<(Name, u8)>
-    ensures sound { IfSome result (λ m. Contains names m.0 × (m.1 < 15) × (text.now ≡ name_text m.0 ++ condition_suffix m.1)) }
-    ensures complete { (name : Name) (cond : ℕ) → Contains names name → cond < 15 → text.now ≡ name_text name ++ condition_suffix cond → result ≡ Some (name, cond) }
+    ensures sound { IfSome result (λ m. Contains names m.0 × (m.1 < 15)
+        × (text.now ≡ name_text m.0 ++ condition_suffix m.1)) }
+    ensures complete { (name : Name) (cond : ℕ) → Contains names name → cond < 15 → text.now ≡ name_text name
+        ++ condition_suffix cond → result ≡ Some (name, cond) }
 {
     if let Some(name) = read_name(text) {
         return Some((name, 14));

@@ -1,7 +1,7 @@
 //! Names of operations, conditions and shifts.
 
 ghost use Rattle.std.specs.Prelude.{◌≡◌};
-ghost use Rattle.arm_text.specs.Names.{condition_suffix, opcode_name, mul_name, mul_long_name, single_name, half_name, shift_name, register_name};
+ghost use Rattle.arm_text.specs.Names.{condition_suffix, opcode_name, mul_name, mul_long_name, single_name, half_name, block_name, shift_name, register_name};
 ghost use Rattle.arm_text.specs.Text.{shift_by_zero};
 
 use arm_code::HalfKind;
@@ -96,6 +96,22 @@ pub(crate) fn half_name(kind: HalfKind) -> &'static [u8]
         HalfKind::Strh => b"strh".as_slice(),
         HalfKind::Ldrsb => b"ldrsb".as_slice(),
         HalfKind::Ldrsh => b"ldrsh".as_slice(),
+    }
+}
+
+/// The name of a transfer of a block.
+pub(crate) fn block_name(load: bool, before: bool, up: bool) -> &'static [u8]
+    ensures { result.now ≡ block_name load before up }
+{
+    match (load, before, up) {
+        (true, true, true) => b"ldmib".as_slice(),
+        (true, true, false) => b"ldmdb".as_slice(),
+        (true, false, true) => b"ldmia".as_slice(),
+        (true, false, false) => b"ldmda".as_slice(),
+        (false, true, true) => b"stmib".as_slice(),
+        (false, true, false) => b"stmdb".as_slice(),
+        (false, false, true) => b"stmia".as_slice(),
+        (false, false, false) => b"stmda".as_slice(),
     }
 }
 

@@ -1,14 +1,13 @@
-//! The parts of an instruction's text: registers, numbers, operands, offsets, addresses and lists. Each is appended to a
-//! text; for want of memory a piece of it may have been appended.
+//! The parts of an instruction's text: registers, numbers, operands, offsets, addresses and lists. Each is appended to
+//! a text; for want of memory a piece of it may have been appended.
 
 ghost use Rattle.std.specs.Prelude.{◌≡◌, ◌<◌, ◌≤◌, ◌++◌, OnOk};
-ghost use Rattle.wx_base.specs.Decimal.{decimal};
+ghost use Rattle.wx_text.specs.Decimal.{decimal};
 ghost use Rattle.arm_text.specs.Names.{register_name, where_set};
 ghost use Rattle.arm_text.specs.Text.{further, numeral, rotated, has_rotation, is_least_rotation, immediate_text, shift_text, shifted_text, by_register_text, operand_text, number_offset, register_offset, offset_text, half_offset_text, base_end, address_end, address_text, listed, listed_below, list_text};
 
 use crate::names::{register_name, shift_by_zero, shift_name};
 use arm_code::{HalfOffset, Index, Offset, Operand};
-use std::alloc::Global;
 use wx_base::{NoMemory, push_number};
 
 /// Appends a text as it stands.
@@ -30,10 +29,10 @@ pub(crate) fn push_where(out: &mut Vec<u8>, set: bool, text: &[u8]) -> Result<()
 }
 
 /// Appends a number.
-pub(crate) fn push_decimal(alloc: Global, out: &mut Vec<u8>, n: u32) -> Result<(), NoMemory>
+pub(crate) fn push_decimal(out: &mut Vec<u8>, n: u32) -> Result<(), NoMemory>
     ensures { OnOk result (out.new.items ≡ out.old.items ++ decimal n) }
 {
-    push_number(alloc, out, i128::from(n))
+    push_number(out, i128::from(n))
 }
 
 /// Appends the name of a register.
@@ -52,11 +51,11 @@ pub(crate) fn push_further(out: &mut Vec<u8>, register: u8) -> Result<(), NoMemo
 }
 
 /// Appends a number with its mark.
-fn push_numeral(alloc: Global, out: &mut Vec<u8>, n: u32) -> Result<(), NoMemory>
+fn push_numeral(out: &mut Vec<u8>, n: u32) -> Result<(), NoMemory>
     ensures { OnOk result (out.new.items ≡ out.old.items ++ numeral n) }
 {
     push(out, b"#".as_slice())?;
-    push_decimal(alloc, out, n)
+    push_decimal(out, n)
 }
 
 /// What an immediate operand stands for.
@@ -88,19 +87,19 @@ pub(crate) fn is_least_rotation(value: u8, rot: u8) -> bool
 }
 
 /// Appends an immediate operand.
-fn push_immediate(alloc: Global, out: &mut Vec<u8>, value: u8, rot: u8) -> Result<(), NoMemory>
+fn push_immediate(out: &mut Vec<u8>, value: u8, rot: u8) -> Result<(), NoMemory>
     ensures { OnOk result (out.new.items ≡ out.old.items ++ immediate_text value rot) }
 {
     if is_least_rotation(value, rot) {
-        return push_numeral(alloc, out, rotated(value, rot));
+        return push_numeral(out, rotated(value, rot));
     }
-    push_numeral(alloc, out, u32::from(value))?;
+    push_numeral(out, u32::from(value))?;
     push(out, b" ror ".as_slice())?;
-    push_decimal(alloc, out, 2 * u32::from(rot))
+    push_decimal(out, 2 * u32::from(rot))
 }
 
 /// Appends the shift of a register by an amount.
-fn push_shift(alloc: Global, out: &mut Vec<u8>, kind: u8, amount: u8) -> Result<(), NoMemory>
+fn push_shift(out: &mut Vec<u8>, kind: u8, amount: u8) -> Result<(), NoMemory>
     ensures { OnOk result (out.new.items ≡ out.old.items ++ shift_text kind amount) }
 {
     if amount == 0 {
@@ -109,21 +108,15 @@ fn push_shift(alloc: Global, out: &mut Vec<u8>, kind: u8, amount: u8) -> Result<
     push(out, b", ".as_slice())?;
     push(out, shift_name(kind))?;
     push(out, b" ".as_slice())?;
-    push_numeral(alloc, out, u32::from(amount))
+    push_numeral(out, u32::from(amount))
 }
 
 /// Appends a register that is shifted by an amount.
-fn push_shifted(
-    alloc: Global,
-    out: &mut Vec<u8>,
-    register: u8,
-    kind: u8,
-    amount: u8,
-) -> Result<(), NoMemory>
+fn push_shifted(out: &mut Vec<u8>, register: u8, kind: u8, amount: u8) -> Result<(), NoMemory>
     ensures { OnOk result (out.new.items ≡ out.old.items ++ shifted_text register kind amount) }
 {
     push_register(out, register)?;
-    push_shift(alloc, out, kind, amount)
+    push_shift(out, kind, amount)
 }
 
 /// Appends a register that is shifted by another.
@@ -138,32 +131,23 @@ fn push_by_register(out: &mut Vec<u8>, register: u8, kind: u8, amount: u8) -> Re
 }
 
 /// Appends the second operand of data processing.
-pub(crate) fn push_operand(
-    alloc: Global,
-    out: &mut Vec<u8>,
-    operand: Operand,
-) -> Result<(), NoMemory>
+pub(crate) fn push_operand(out: &mut Vec<u8>, operand: Operand) -> Result<(), NoMemory>
     ensures { OnOk result (out.new.items ≡ out.old.items ++ operand_text operand) }
 {
     match operand {
-        Operand::Imm { value, rot } => push_immediate(alloc, out, value, rot),
-        Operand::Shift { rm, kind, amount } => push_shifted(alloc, out, rm, kind, amount),
+        Operand::Imm { value, rot } => push_immediate(out, value, rot),
+        Operand::Shift { rm, kind, amount } => push_shifted(out, rm, kind, amount),
         Operand::ByReg { rm, kind, rs } => push_by_register(out, rm, kind, rs),
     }
 }
 
 /// Appends an offset that is a number.
-fn push_number_offset(
-    alloc: Global,
-    out: &mut Vec<u8>,
-    up: bool,
-    value: u16,
-) -> Result<(), NoMemory>
+fn push_number_offset(out: &mut Vec<u8>, up: bool, value: u16) -> Result<(), NoMemory>
     ensures { OnOk result (out.new.items ≡ out.old.items ++ number_offset up value) }
 {
     push(out, b"#".as_slice())?;
     push_where(out, !up, b"-".as_slice())?;
-    push_decimal(alloc, out, u32::from(value))
+    push_decimal(out, u32::from(value))
 }
 
 /// Appends an offset that is in a register.
@@ -175,29 +159,24 @@ fn push_register_offset(out: &mut Vec<u8>, up: bool, register: u8) -> Result<(),
 }
 
 /// Appends the offset of a transfer of a word or a byte.
-fn push_offset(alloc: Global, out: &mut Vec<u8>, up: bool, offset: Offset) -> Result<(), NoMemory>
+fn push_offset(out: &mut Vec<u8>, up: bool, offset: Offset) -> Result<(), NoMemory>
     ensures { OnOk result (out.new.items ≡ out.old.items ++ offset_text up offset) }
 {
     match offset {
-        Offset::Imm { value } => push_number_offset(alloc, out, up, value),
+        Offset::Imm { value } => push_number_offset(out, up, value),
         Offset::Reg { rm, kind, amount } => {
             push_register_offset(out, up, rm)?;
-            push_shift(alloc, out, kind, amount)
+            push_shift(out, kind, amount)
         }
     }
 }
 
 /// Appends the offset of a transfer of a half word or a signed byte.
-fn push_half_offset(
-    alloc: Global,
-    out: &mut Vec<u8>,
-    up: bool,
-    offset: HalfOffset,
-) -> Result<(), NoMemory>
+fn push_half_offset(out: &mut Vec<u8>, up: bool, offset: HalfOffset) -> Result<(), NoMemory>
     ensures { OnOk result (out.new.items ≡ out.old.items ++ half_offset_text up offset) }
 {
     match offset {
-        HalfOffset::Imm { value } => push_number_offset(alloc, out, up, u16::from(value)),
+        HalfOffset::Imm { value } => push_number_offset(out, up, u16::from(value)),
         HalfOffset::Reg { rm } => push_register_offset(out, up, rm),
     }
 }
@@ -225,7 +204,6 @@ fn address_end(index: Index) -> &'static [u8]
 
 /// Appends the address of a transfer of a word or a byte.
 pub(crate) fn push_address(
-    alloc: Global,
     out: &mut Vec<u8>,
     index: Index,
     base: u8,
@@ -237,13 +215,12 @@ pub(crate) fn push_address(
     push(out, b"[".as_slice())?;
     push_register(out, base)?;
     push(out, base_end(index))?;
-    push_offset(alloc, out, up, offset)?;
+    push_offset(out, up, offset)?;
     push(out, address_end(index))
 }
 
 /// Appends the address of a transfer of a half word or a signed byte.
 pub(crate) fn push_half_address(
-    alloc: Global,
     out: &mut Vec<u8>,
     index: Index,
     base: u8,
@@ -255,7 +232,7 @@ pub(crate) fn push_half_address(
     push(out, b"[".as_slice())?;
     push_register(out, base)?;
     push(out, base_end(index))?;
-    push_half_offset(alloc, out, up, offset)?;
+    push_half_offset(out, up, offset)?;
     push(out, address_end(index))
 }
 

@@ -17,14 +17,16 @@ pub(crate) fn is(text: &[u8], other: &[u8]) -> bool
 
 /// The text behind `front`, if the text begins with it.
 pub(crate) fn behind<'a>(text: &'a [u8], front: &[u8]) -> Option<&'a [u8]>
-    ensures { MatchOption result ((tail : List ℕ) → text.now ≢ front.now ++ tail) (λ tail. text.now ≡ front.now ++ tail.now) }
+    ensures { MatchOption result ((tail : List ℕ) → text.now ≢ front.now ++ tail) (λ tail. text.now ≡ front.now
+        ++ tail.now) }
 {
     text.strip_prefix(front)
 }
 
 /// The text before `back`, if the text ends with it.
 pub(crate) fn before<'a>(text: &'a [u8], back: &[u8]) -> Option<&'a [u8]>
-    ensures { MatchOption result ((head : List ℕ) → text.now ≢ head ++ back.now) (λ head. text.now ≡ head.now ++ back.now) }
+    ensures { MatchOption result ((head : List ℕ) → text.now ≢ head ++ back.now) (λ head. text.now ≡ head.now
+        ++ back.now) }
 {
     text.strip_suffix(back)
 }
@@ -32,7 +34,8 @@ pub(crate) fn before<'a>(text: &'a [u8], back: &[u8]) -> Option<&'a [u8]>
 /// What stands before and behind the first byte that is `separator`.
 pub(crate) fn split(text: &[u8], separator: u8) -> Option<(&[u8], &[u8])>
     ensures sound { IfSome result (λ p. text.now ≡ p.0.now ++ separator ∷ p.1.now) }
-    ensures complete { (head tail : List ℕ) → is_without separator head ≡ true → text.now ≡ head ++ separator ∷ tail → IsSomeAnd result (λ p. (p.0.now ≡ head) × (p.1.now ≡ tail)) }
+    ensures complete { (head tail : List ℕ) → is_without separator head ≡ true → text.now ≡ head ++ separator ∷ tail
+        → IsSomeAnd result (λ p. (p.0.now ≡ head) × (p.1.now ≡ tail)) }
 {
     for (at, byte) in text.iter().enumerate() {
         if *byte == separator {
@@ -45,7 +48,8 @@ pub(crate) fn split(text: &[u8], separator: u8) -> Option<(&[u8], &[u8])>
 /// The first of several operands, and the text of those behind it.
 pub(crate) fn split_operand(text: &[u8]) -> Option<(&[u8], &[u8])>
     ensures sound { IfSome result (λ p. text.now ≡ p.0.now ++ further p.1.now) }
-    ensures complete { (head tail : List ℕ) → is_without 44 head ≡ true → text.now ≡ head ++ further tail → IsSomeAnd result (λ p. (p.0.now ≡ head) × (p.1.now ≡ tail)) }
+    ensures complete { (head tail : List ℕ) → is_without 44 head ≡ true → text.now ≡ head ++ further tail
+        → IsSomeAnd result (λ p. (p.0.now ≡ head) × (p.1.now ≡ tail)) }
 {
     let (operand, rest) = split(text, b',')?;
     Some((operand, behind(rest, b" ".as_slice())?))
@@ -67,7 +71,8 @@ pub(crate) fn read_register(text: &[u8]) -> Option<u8>
 /// The register that the first of several operands names, and the text of those behind it.
 pub(crate) fn split_register(text: &[u8]) -> Option<(u8, &[u8])>
     ensures sound { IfSome result (λ p. (p.0 < 16) × (text.now ≡ register_name p.0 ++ further p.1.now)) }
-    ensures complete { (register : ℕ) (tail : List ℕ) → register < 16 → text.now ≡ register_name register ++ further tail → IsSomeAnd result (λ p. (p.0 ≡ register) × (p.1.now ≡ tail)) }
+    ensures complete { (register : ℕ) (tail : List ℕ) → register < 16 → text.now ≡ register_name register
+        ++ further tail → IsSomeAnd result (λ p. (p.0 ≡ register) × (p.1.now ≡ tail)) }
 {
     let (operand, rest) = split_operand(text)?;
     Some((read_register(operand)?, rest))

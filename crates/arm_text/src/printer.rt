@@ -1,32 +1,60 @@
 //! The text of a whole instruction.
 
-ghost use Rattle.std.specs.Prelude.{◌≡◌, ◌++◌, OnOk, OnErr};
-ghost use Rattle.wx_base.specs.Instruction.{is_compare, is_move};
+ghost use Rattle.std.specs.Prelude.{◌≡◌, ◌++◌, OnOk, OnErr, codes};
+ghost use Rattle.wx_text.specs.Hexadecimal.{hex_word};
 ghost use Rattle.arm_code.specs.Encoding.{IsValid};
-ghost use Rattle.arm_text.specs.Names.{condition_suffix, block_name};
-ghost use Rattle.arm_text.specs.Text.{mnemonic, alu_registers, alu_text, mul_text, mul_long_text, single_text, half_text, block_text, branch_text, exchange_text, svc_text, mov_pc_lr_text, op_text, text_of};
+ghost use Rattle.arm_code.specs.Flows.{offset_target};
+ghost use Rattle.arm_text.specs.Mnemonics.{name_text};
+ghost use Rattle.arm_text.specs.Names.{register_name, where_set};
+ghost use Rattle.arm_text.specs.Operands.{mul_operands, mul_long_operands, marked_base, name_of, operands_text};
+ghost use Rattle.arm_text.specs.Text.{further, alu_registers, operand_text, offset_text, half_offset_text, address_text, list_text, text_of};
 
 use crate::names::{
-    condition_suffix, half_name, mul_long_name, mul_name, opcode_name, single_name,
+    block_name, condition_suffix, half_name, mul_long_name, mul_name, opcode_name, single_name,
 };
 use crate::operands::{
     push, push_address, push_decimal, push_further, push_half_address, push_list, push_operand,
     push_register, push_where,
 };
-use arm_code::{
-    HalfKind, HalfOffset, Index, Insn, Offset, Op, Operand, is_compare, is_move, offset_target,
-};
-use std::alloc::Global;
+use arm_code::{HalfOffset, Index, Insn, Offset, Op, Operand, is_compare, is_move, offset_target};
 use wx_base::{NoMemory, push_word};
 
-/// Appends a mnemonic with its suffixes, and the space behind it.
-fn push_mnemonic(out: &mut Vec<u8>, name: &[u8], flags: bool, suffix: &[u8]) -> Result<(), NoMemory>
-    ensures { OnOk result (out.new.items ≡ out.old.items ++ mnemonic name.now flags suffix.now) }
+/// Appends a name, with an `s` behind it if flags are set.
+fn push_with_flags(out: &mut Vec<u8>, name: &[u8], flags: bool) -> Result<(), NoMemory>
+    ensures { OnOk result (out.new.items ≡ out.old.items ++ (name.now ++ where_set flags (codes "s"))) }
 {
     push(out, name)?;
-    push_where(out, flags, b"s".as_slice())?;
-    push(out, suffix)?;
-    push(out, b" ".as_slice())
+    push_where(out, flags, b"s".as_slice())
+}
+
+/// Appends the name of an operation.
+fn push_name(out: &mut Vec<u8>, op: Op) -> Result<(), NoMemory>
+    ensures { OnOk result (out.new.items ≡ out.old.items ++ name_text (name_of op)) }
+{
+    match op {
+        Op::Alu { op, s, .. } => push_with_flags(out, opcode_name(op), s && !is_compare(op)),
+        Op::Mul { accumulate, s, .. } => push_with_flags(out, mul_name(accumulate), s),
+        Op::MulLong {
+            signed,
+            accumulate,
+            s,
+            ..
+        } => push_with_flags(out, mul_long_name(signed, accumulate), s),
+        Op::Single { load, byte, .. } => push(out, single_name(load, byte)),
+        Op::Half { kind, .. } => push(out, half_name(kind)),
+        Op::Block {
+            load,
+            before,
+            up,
+            ..
+        } => push(out, block_name(load, before, up)),
+        Op::Branch { link: false, .. } => push(out, b"b".as_slice()),
+        Op::Branch { link: true, .. } => push(out, b"bl".as_slice()),
+        Op::Exchange { link: false, .. } => push(out, b"bx".as_slice()),
+        Op::Exchange { link: true, .. } => push(out, b"blx".as_slice()),
+        Op::Svc { .. } => push(out, b"svc".as_slice()),
+        Op::MovPcLr => push(out, b"mov".as_slice()),
+    }
 }
 
 /// Appends the registers of data processing.
@@ -43,37 +71,25 @@ fn push_alu_registers(out: &mut Vec<u8>, code: u8, rn: u8, rd: u8) -> Result<(),
     Ok(())
 }
 
-fn push_alu(
-    alloc: Global,
-    out: &mut Vec<u8>,
-    suffix: &[u8],
-    code: u8,
-    s: bool,
-    rn: u8,
-    rd: u8,
-    operand: Operand,
-) -> Result<(), NoMemory>
-    ensures { OnOk result (out.new.items ≡ out.old.items ++ alu_text suffix.now code s rn rd operand) }
+fn push_alu(out: &mut Vec<u8>, code: u8, rn: u8, rd: u8, operand: Operand) -> Result<(), NoMemory>
+    ensures { OnOk result (out.new.items ≡ out.old.items
+        ++ (alu_registers code rn rd ++ further (operand_text operand))) }
 {
-    push_mnemonic(out, opcode_name(code), s && !is_compare(code), suffix)?;
     push_alu_registers(out, code, rn, rd)?;
     push(out, b", ".as_slice())?;
-    push_operand(alloc, out, operand)
+    push_operand(out, operand)
 }
 
 fn push_mul(
     out: &mut Vec<u8>,
-    suffix: &[u8],
     accumulate: bool,
-    s: bool,
     rd: u8,
     rn: u8,
     rs: u8,
     rm: u8,
 ) -> Result<(), NoMemory>
-    ensures { OnOk result (out.new.items ≡ out.old.items ++ mul_text suffix.now accumulate s rd rn rs rm) }
+    ensures { OnOk result (out.new.items ≡ out.old.items ++ mul_operands accumulate rd rn rs rm) }
 {
-    push_mnemonic(out, mul_name(accumulate), s, suffix)?;
     push_register(out, rd)?;
     push_further(out, rm)?;
     push_further(out, rs)?;
@@ -83,20 +99,9 @@ fn push_mul(
     Ok(())
 }
 
-fn push_mul_long(
-    out: &mut Vec<u8>,
-    suffix: &[u8],
-    signed: bool,
-    accumulate: bool,
-    s: bool,
-    hi: u8,
-    lo: u8,
-    rs: u8,
-    rm: u8,
-) -> Result<(), NoMemory>
-    ensures { OnOk result (out.new.items ≡ out.old.items ++ mul_long_text suffix.now signed accumulate s hi lo rs rm) }
+fn push_mul_long(out: &mut Vec<u8>, hi: u8, lo: u8, rs: u8, rm: u8) -> Result<(), NoMemory>
+    ensures { OnOk result (out.new.items ≡ out.old.items ++ mul_long_operands hi lo rs rm) }
 {
-    push_mnemonic(out, mul_long_name(signed, accumulate), s, suffix)?;
     push_register(out, lo)?;
     push_further(out, hi)?;
     push_further(out, rm)?;
@@ -104,82 +109,41 @@ fn push_mul_long(
 }
 
 fn push_single(
-    alloc: Global,
     out: &mut Vec<u8>,
-    suffix: &[u8],
-    load: bool,
-    byte: bool,
     rd: u8,
     rn: u8,
     index: Index,
     up: bool,
     offset: Offset,
 ) -> Result<(), NoMemory>
-    ensures { OnOk result (out.new.items ≡ out.old.items ++ single_text suffix.now load byte rd rn index up offset) }
+    ensures { OnOk result (out.new.items ≡ out.old.items
+        ++ (register_name rd ++ further (address_text index rn (offset_text up offset)))) }
 {
-    push_mnemonic(out, single_name(load, byte), false, suffix)?;
     push_register(out, rd)?;
     push(out, b", ".as_slice())?;
-    push_address(alloc, out, index, rn, up, offset)
+    push_address(out, index, rn, up, offset)
 }
 
 fn push_half(
-    alloc: Global,
     out: &mut Vec<u8>,
-    suffix: &[u8],
-    kind: HalfKind,
     rd: u8,
     rn: u8,
     index: Index,
     up: bool,
     offset: HalfOffset,
 ) -> Result<(), NoMemory>
-    ensures { OnOk result (out.new.items ≡ out.old.items ++ half_text suffix.now kind rd rn index up offset) }
+    ensures { OnOk result (out.new.items ≡ out.old.items
+        ++ (register_name rd ++ further (address_text index rn (half_offset_text up offset)))) }
 {
-    push_mnemonic(out, half_name(kind), false, suffix)?;
     push_register(out, rd)?;
     push(out, b", ".as_slice())?;
-    push_half_address(alloc, out, index, rn, up, offset)
+    push_half_address(out, index, rn, up, offset)
 }
 
-/// Appends the name of a block transfer.
-fn push_block_name(out: &mut Vec<u8>, load: bool, before: bool, up: bool) -> Result<(), NoMemory>
-    ensures { OnOk result (out.new.items ≡ out.old.items ++ block_name load before up) }
+fn push_block(out: &mut Vec<u8>, wback: bool, rn: u8, list: u16) -> Result<(), NoMemory>
+    ensures { OnOk result (out.new.items ≡ out.old.items
+        ++ (marked_base wback rn ++ codes ", {" ++ list_text list ++ codes "}")) }
 {
-    push(
-        out,
-        if load {
-            b"ldm".as_slice()
-        } else {
-            b"stm".as_slice()
-        },
-    )?;
-    push(out, if up { b"i".as_slice() } else { b"d".as_slice() })?;
-    push(
-        out,
-        if before {
-            b"b".as_slice()
-        } else {
-            b"a".as_slice()
-        },
-    )
-}
-
-fn push_block(
-    out: &mut Vec<u8>,
-    suffix: &[u8],
-    load: bool,
-    before: bool,
-    up: bool,
-    wback: bool,
-    rn: u8,
-    list: u16,
-) -> Result<(), NoMemory>
-    ensures { OnOk result (out.new.items ≡ out.old.items ++ block_text suffix.now load before up wback rn list) }
-{
-    push_block_name(out, load, before, up)?;
-    push(out, suffix)?;
-    push(out, b" ".as_slice())?;
     push_register(out, rn)?;
     push_where(out, wback, b"!".as_slice())?;
     push(out, b", {".as_slice())?;
@@ -187,119 +151,60 @@ fn push_block(
     push(out, b"}".as_slice())
 }
 
-fn push_branch(
-    out: &mut Vec<u8>,
-    addr: u32,
-    suffix: &[u8],
-    link: bool,
-    offset: i32,
-) -> Result<(), NoMemory>
-    ensures { OnOk result (out.new.items ≡ out.old.items ++ branch_text addr suffix.now link offset) }
+fn push_target(out: &mut Vec<u8>, addr: u32, offset: i32) -> Result<(), NoMemory>
+    ensures { OnOk result (out.new.items ≡ out.old.items ++ (codes "0x" ++ hex_word (offset_target addr offset))) }
 {
-    push(out, b"b".as_slice())?;
-    push_where(out, link, b"l".as_slice())?;
-    push(out, suffix)?;
-    push(out, b" 0x".as_slice())?;
+    push(out, b"0x".as_slice())?;
     push_word(out, offset_target(addr, offset))
 }
 
-fn push_exchange(out: &mut Vec<u8>, suffix: &[u8], link: bool, rm: u8) -> Result<(), NoMemory>
-    ensures { OnOk result (out.new.items ≡ out.old.items ++ exchange_text suffix.now link rm) }
-{
-    push(
-        out,
-        if link {
-            b"blx".as_slice()
-        } else {
-            b"bx".as_slice()
-        },
-    )?;
-    push(out, suffix)?;
-    push(out, b" ".as_slice())?;
-    push_register(out, rm)
-}
-
-fn push_svc(alloc: Global, out: &mut Vec<u8>, suffix: &[u8], number: u32) -> Result<(), NoMemory>
-    ensures { OnOk result (out.new.items ≡ out.old.items ++ svc_text suffix.now number) }
-{
-    push(out, b"svc".as_slice())?;
-    push(out, suffix)?;
-    push(out, b" ".as_slice())?;
-    push_decimal(alloc, out, number)
-}
-
-fn push_mov_pc_lr(out: &mut Vec<u8>, suffix: &[u8]) -> Result<(), NoMemory>
-    ensures { OnOk result (out.new.items ≡ out.old.items ++ mov_pc_lr_text suffix.now) }
-{
-    push(out, b"mov".as_slice())?;
-    push(out, suffix)?;
-    push(out, b" pc, lr".as_slice())
-}
-
-/// Appends the text of an operation at an address, with the suffix of its condition.
-fn push_op(
-    alloc: Global,
-    out: &mut Vec<u8>,
-    addr: u32,
-    suffix: &[u8],
-    op: Op,
-) -> Result<(), NoMemory>
-    ensures { OnOk result (out.new.items ≡ out.old.items ++ op_text addr suffix.now op) }
+/// Appends the operands of an operation at an address.
+fn push_operands(out: &mut Vec<u8>, addr: u32, op: Op) -> Result<(), NoMemory>
+    ensures { OnOk result (out.new.items ≡ out.old.items ++ operands_text addr op) }
 {
     match op {
         Op::Alu {
             op,
-            s,
             rn,
             rd,
             operand,
-        } => push_alu(alloc, out, suffix, op, s, rn, rd, operand),
+            ..
+        } => push_alu(out, op, rn, rd, operand),
         Op::Mul {
             accumulate,
-            s,
             rd,
             rn,
             rs,
             rm,
-        } => push_mul(out, suffix, accumulate, s, rd, rn, rs, rm),
-        Op::MulLong {
-            signed,
-            accumulate,
-            s,
-            hi,
-            lo,
-            rs,
-            rm,
-        } => push_mul_long(out, suffix, signed, accumulate, s, hi, lo, rs, rm),
+            ..
+        } => push_mul(out, accumulate, rd, rn, rs, rm),
+        Op::MulLong { hi, lo, rs, rm, .. } => push_mul_long(out, hi, lo, rs, rm),
         Op::Single {
-            load,
-            byte,
             rd,
             rn,
             index,
             up,
             offset,
-        } => push_single(alloc, out, suffix, load, byte, rd, rn, index, up, offset),
+            ..
+        } => push_single(out, rd, rn, index, up, offset),
         Op::Half {
-            kind,
             rd,
             rn,
             index,
             up,
             offset,
-        } => push_half(alloc, out, suffix, kind, rd, rn, index, up, offset),
+            ..
+        } => push_half(out, rd, rn, index, up, offset),
         Op::Block {
-            load,
-            before,
-            up,
             wback,
             rn,
             list,
-        } => push_block(out, suffix, load, before, up, wback, rn, list),
-        Op::Branch { link, offset } => push_branch(out, addr, suffix, link, offset),
-        Op::Exchange { link, rm } => push_exchange(out, suffix, link, rm),
-        Op::Svc { number } => push_svc(alloc, out, suffix, number),
-        Op::MovPcLr => push_mov_pc_lr(out, suffix),
+            ..
+        } => push_block(out, wback, rn, list),
+        Op::Branch { offset, .. } => push_target(out, addr, offset),
+        Op::Exchange { rm, .. } => push_register(out, rm),
+        Op::Svc { number } => push_decimal(out, number),
+        Op::MovPcLr => push(out, b"pc, lr".as_slice()),
     }
 }
 
@@ -307,14 +212,16 @@ fn push_op(
 ///
 /// Registers are `r0` to `r12`, `sp`, `lr` and `pc`, numbers are decimal; branches show their target in hexadecimal.
 /// The spelling is this project's own, after the assembly language of the ARM Architecture Reference Manual.
-#[tactic(auto, unfolding(crate::specs::Text::text_of))]
-pub fn print_insn(alloc: Global, out: &mut Vec<u8>, addr: u32, insn: &Insn) -> Result<(), NoMemory>
+pub fn print_insn(out: &mut Vec<u8>, addr: u32, insn: &Insn) -> Result<(), NoMemory>
     requires { IsValid insn.now }
     ensures written { OnOk result (out.new.items ≡ out.old.items ++ text_of addr insn.now) }
     ensures kept { OnErr result (out.new.items ≡ out.old.items) }
 {
-    let mut text = Vec::new(alloc);
-    push_op(alloc, &mut text, addr, condition_suffix(insn.cond), insn.op)?;
+    let mut text = Vec::new(*out.allocator());
+    push_name(&mut text, insn.op)?;
+    push(&mut text, condition_suffix(insn.cond))?;
+    push(&mut text, b" ".as_slice())?;
+    push_operands(&mut text, addr, insn.op)?;
     out.extend_from_slice(&text)?;
     Ok(())
 }

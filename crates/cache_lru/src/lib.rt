@@ -5,8 +5,6 @@ mod laws;
 mod lru;
 mod refusal;
 mod set;
-#[cfg(test)]
-mod tests;
 
 pub use laws::{access_keeps_cache, accessed_is_youngest, second_access_hits};
 pub use lru::Lru;

@@ -29,7 +29,8 @@ impl Model for Lru {
 
     ghost view = { λ c. record { shape = c.shape; lists = lines_of c.lists.items } };
 
-    ghost invariant = { λ c. IsShape c.shape × IsCache c.shape (lines_of c.lists.items) × All (λ list. c.shape.ways ≤ vec_capacity list) c.lists.items };
+    ghost invariant = { λ c. IsShape c.shape × IsCache c.shape (lines_of c.lists.items)
+        × All (λ list. c.shape.ways ≤ vec_capacity list) c.lists.items };
 }
 
 impl Lru {
@@ -44,7 +45,8 @@ impl Lru {
         ensures made { IfOk result (λ lru. (lru.shape ≡ shape) × (lru.lists ≡ lines_of lists.items)) }
         ensures cache { OnOk result (IsCache shape (lines_of lists.items)) }
         ensures accepted { IsCache shape (lines_of lists.items) → IfErr result (λ e. e ≡ refusal.NoMemory) }
-        ensures refused { (set : ℕ) → IsFirstBad shape (lines_of lists.items) set → IsErrAnd result (λ e. (e ≡ refusal.NoMemory) ⊎ (e ≡ refusal.NotACache set)) }
+        ensures refused { (set : ℕ) → IsFirstBad shape (lines_of lists.items) set
+            → IsErrAnd result (λ e. (e ≡ refusal.NoMemory) ⊎ (e ≡ refusal.NotACache set)) }
         ensures cause { (set : ℕ) → result ≡ Err (refusal.NotACache set) → IsFirstBad shape (lines_of lists.items) set }
     {
         if let Some(set) = first_bad(shape, lists.as_slice()) {
@@ -53,6 +55,13 @@ impl Lru {
         let mut lists = lists;
         make_room(lists.as_mut_slice(), shape.ways as usize)?;
         Ok(Lru { shape, lists })
+    }
+
+    /// The lists are those of a cache of the shape. A law: nothing is looked up.
+    pub fn is_cache(&self)
+        ensures { IsCache self.now.shape self.now.lists }
+    {
+        let _ = &self.lists;
     }
 
     /// Accesses a line, by its number: the line becomes the youngest of its set, and if it was missing and the set is
@@ -72,7 +81,8 @@ impl Lru {
 fn first_bad(shape: Shape, lists: &[Vec<u32>]) -> Option<usize>
     requires shape { IsShape shape }
     requires sets { length lists.now ≡ shape.sets }
-    ensures { MatchOption result (IsCache shape (lines_of lists.now)) (λ set. IsFirstBad shape (lines_of lists.now) set) }
+    ensures { MatchOption result (IsCache shape (lines_of lists.now))
+        (λ set. IsFirstBad shape (lines_of lists.now) set) }
 {
     for (set, list) in lists.iter().enumerate() {
         if !is_set(shape, set, list.as_slice()) {

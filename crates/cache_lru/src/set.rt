@@ -41,7 +41,8 @@ pub(crate) fn is_set(shape: Shape, set: usize, lines: &[u32]) -> bool
 
 /// Where the line stands in the list.
 fn place_of(lines: &[u32], line: u32) -> Option<usize>
-    ensures { MatchOption result (list_any (λ other. other == line) lines.now ≡ false) (λ place. (place < length lines.now) × (slice_index lines.now place ≡ line)) }
+    ensures { MatchOption result (list_any (λ other. other == line) lines.now
+        ≡ false) (λ place. (place < length lines.now) × (slice_index lines.now place ≡ line)) }
 {
     for (i, other) in lines.iter().enumerate() {
         if *other == line {

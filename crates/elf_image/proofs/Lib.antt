@@ -4,3 +4,4 @@ pub mod Loaded
 pub mod Numbers
 pub mod Sections
 pub mod Unique
+mod Due

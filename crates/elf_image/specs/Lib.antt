@@ -4,3 +4,4 @@ pub mod Fields
 pub mod Meaning
 pub mod Overlaps
 pub mod Plain
+pub mod Laws

@@ -6,14 +6,14 @@ mod bytes;
 mod error;
 mod fields;
 mod identity;
+mod laws;
 mod load;
 mod overlap;
 mod read;
 mod strings;
 mod table;
-#[cfg(test)]
-mod tests;
 
 pub use error::ElfError;
+pub use laws::one_answer_is_due;
 pub use read::read_image;
 pub use wx_base::{Image, Segment, Segments, Symbols};

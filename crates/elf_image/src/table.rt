@@ -60,7 +60,8 @@ fn read_section_headers(
     requires before { Passes 9 bytes.now }
     ensures sized { OnOk result ((file_header bytes.now).shentsize ≡ 40) }
     ensures in_file { OnOk result ((i : ℕ) → i < (file_header bytes.now).shnum → SectionInFile bytes.now i) }
-    ensures headers { IfOk result (λ v. v.items ≡ map (section_header bytes.now) (range_with_len 0 (file_header bytes.now).shnum)) }
+    ensures headers { IfOk result
+        (λ v. v.items ≡ map (section_header bytes.now) (range_with_len 0 (file_header bytes.now).shnum)) }
     ensures refused { IfErr result (IsRefusal bytes.now) }
 {
     if header.shentsize as usize != SECTION_HEADER_SIZE {

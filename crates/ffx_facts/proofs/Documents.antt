@@ -220,7 +220,7 @@ tag_of s kind given place = record s {
 -- the element that is then read
 tag_element : (s : State) (kind : Kind) (given : List Given) (bytes : List ℕ) (place : ℕ) → AreAttributes given bytes → read_element (tag_of s kind given place) ≡ element kind s.place given
 tag_element s kind given bytes place h =
-    four (of (codes "address")) (of (codes "label")) (of (codes "offset")) (of (codes "maxcount"))
+    all_equal (of (codes "address")) (of (codes "label")) (of (codes "offset")) (of (codes "maxcount")) (of (codes "totalcount"))
   where
     back : (x : Option (List ℕ)) → or_else x None ≡ x
     back None = refl
@@ -229,9 +229,9 @@ tag_element s kind given bytes place h =
     of : (name : List ℕ) → adds (λ _. None) given name ≡ value_of given name
     of name = adds_is given (λ _. None) bytes h name ∙ back (value_of given name)
 
-    four : {a a' b b' c c' d d' : Option (List ℕ)} → a ≡ a' → b ≡ b' → c ≡ c' → d ≡ d'
-        → (let x : Element = record { kind = kind; at = s.place; address = a; label = b; offset = c; maxcount = d } in x) ≡ (let x : Element = record { kind = kind; at = s.place; address = a'; label = b'; offset = c'; maxcount = d' } in x)
-    four e f g h = cc
+    all_equal : {a a' b b' c c' d d' t t' : Option (List ℕ)} → a ≡ a' → b ≡ b' → c ≡ c' → d ≡ d' → t ≡ t'
+        → (let x : Element = record { kind = kind; at = s.place; address = a; label = b; offset = c; maxcount = d; totalcount = t } in x) ≡ (let x : Element = record { kind = kind; at = s.place; address = a'; label = b'; offset = c'; maxcount = d'; totalcount = t' } in x)
+    all_equal e f g h i = cc
 
 tag_place : (p place : ℕ) (o a b : List ℕ) → place ≡ p + length o + length b → a ≡ b → place ≡ p + length (o ++ a)
 tag_place p place o a b e f =

@@ -57,7 +57,7 @@ front_said symbols es all before i fine front =
     oks_same before (take i all) (sym front.say ∙ sym (take-map (says symbols) i es) ∙ ap (take i) fine.say ∙ take-map as_ok i all)
 
 abbrev nothing_said : Says
-nothing_said = record { kind = FlowFacts; address = 0; count = None }
+nothing_said = record { kind = FlowFacts; address = 0; bounds = None }
 
 -- a fact repeats none before it
 new_fact : (all : List Says) (i : ℕ) → IsDistinct is_same_fact all → i < length all → list_any (is_same_fact (get_or all i nothing_said)) (take i all) ≡ false

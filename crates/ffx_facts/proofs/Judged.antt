@@ -80,7 +80,7 @@ swapped false false c d = refl
 
 pub same_fact_flips : (s t : Says) → is_same_fact s t ≡ is_same_fact t s
 same_fact_flips s t =
-    rw (same_kind_flips t.kind s.kind, equal_flips t.address s.address) (swapped (states s.kind s.count) (states t.kind t.count) (is_same_kind s.kind t.kind) (s.address == t.address))
+    rw (same_kind_flips t.kind s.kind, equal_flips t.address s.address) (swapped (states s.kind s.bounds) (states t.kind t.bounds) (is_same_kind s.kind t.kind) (s.address == t.address))
 
 apart_more : (x y : Says) (all : List Says) → AllByRecursion (λ z. is_same_fact x z ≡ false) all → is_same_fact x y ≡ false → AllByRecursion (λ z. is_same_fact x z ≡ false) (all ++ y ∷ [])
 apart_more x y [] a h = (h, tt)
@@ -142,9 +142,9 @@ any_and true p all = refl
 any_and false p all = any_of_none all p
 
 -- whether a fact repeats one is whether it was seen
-pub repeats_seen : (seen : Seen) (all : List Says) (s : Says) → HasSeen seen all → list_any (is_same_fact s) all ≡ (states s.kind s.count && was_seen seen s.kind s.address)
+pub repeats_seen : (seen : Seen) (all : List Says) (s : Says) → HasSeen seen all → list_any (is_same_fact s) all ≡ (states s.kind s.bounds && was_seen seen s.kind s.address)
 repeats_seen seen all s h =
-    any_and (states s.kind s.count) (is_fact_at s.kind s.address) all ∙ ap (λ (b : Bool). states s.kind s.count && b) (sym (h.facts s.kind s.address))
+    any_and (states s.kind s.bounds) (is_fact_at s.kind s.address) all ∙ ap (λ (b : Bool). states s.kind s.bounds && b) (sym (h.facts s.kind s.address))
 
 -- nothing was seen
 pub seen_none : (seen : Seen) → ((kind : Kind) (address : ℕ) → was_seen seen kind address ≡ false) → HasSeen seen []
@@ -171,7 +171,7 @@ is_first false h = refl
 
 -- what a reading of no element keeps
 abbrev pub no_kept : Kept
-no_kept = record { kind = FlowFacts; at = 0; address = None; label = None; offset = None; maxcount = None }
+no_kept = record { kind = FlowFacts; at = 0; address = None; label = None; offset = None; maxcount = None; totalcount = None }
 
 -- what a kept element says
 pub says_at : (symbols : List Symbol) (kept : List Kept) (i : ℕ) → i < length kept → says symbols (element (get_or kept i no_kept)) ≡ says symbols (get_or (map element kept) i (element no_kept))

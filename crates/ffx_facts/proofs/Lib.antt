@@ -7,6 +7,8 @@ pub mod Judged
 pub mod Ordered
 pub mod Exact
 pub mod FactsOne
+pub mod Stated
+pub mod Due
 pub mod Spelled
 pub mod Split
 pub mod Documents

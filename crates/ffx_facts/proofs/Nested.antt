@@ -93,14 +93,15 @@ said kind at attributes = record {
   label = attributes (codes "label");
   offset = attributes (codes "offset");
   maxcount = attributes (codes "maxcount");
+  totalcount = attributes (codes "totalcount");
 }
 
 said_same : (kind : Kind) (at : ℕ) (a b : Attributes) → ((name : List ℕ) → a name ≡ b name) → said kind at a ≡ said kind at b
-said_same kind at a b e = four (e (codes "address")) (e (codes "label")) (e (codes "offset")) (e (codes "maxcount"))
+said_same kind at a b e = all_equal (e (codes "address")) (e (codes "label")) (e (codes "offset")) (e (codes "maxcount")) (e (codes "totalcount"))
   where
-    four : {p p' q q' r r' s s' : Option (List ℕ)} → p ≡ p' → q ≡ q' → r ≡ r' → s ≡ s'
-        → (let x : Element = record { kind = kind; at = at; address = p; label = q; offset = r; maxcount = s } in x) ≡ (let x : Element = record { kind = kind; at = at; address = p'; label = q'; offset = r'; maxcount = s' } in x)
-    four e f g h = cc
+    all_equal : {p p' q q' r r' s s' t t' : Option (List ℕ)} → p ≡ p' → q ≡ q' → r ≡ r' → s ≡ s' → t ≡ t'
+        → (let x : Element = record { kind = kind; at = at; address = p; label = q; offset = r; maxcount = s; totalcount = t } in x) ≡ (let x : Element = record { kind = kind; at = at; address = p'; label = q'; offset = r'; maxcount = s'; totalcount = t' } in x)
+    all_equal e f g h i = cc
 
 -- what the attributes say, beside those before them
 abbrev beside : List Given → Attributes → Attributes

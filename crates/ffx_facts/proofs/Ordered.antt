@@ -15,6 +15,7 @@ use Rattle.wx_base.specs.declared.facts.TargetFact.{TargetFact}
 use Rattle.wx_base.specs.Facts.{AreAscending, LoopsAscend, TargetsAscend}
 use Rattle.ffx_facts.specs.declared.kind.Kind.{Kind}
 use Rattle.ffx_facts.specs.declared.kind.Kind.TheVariants.{FlowFacts, Function, Loop, MultiBranch, MultiCall, Target}
+use Rattle.ffx_facts.specs.declared.says.Bounds.{Bounds}
 use Rattle.ffx_facts.specs.declared.says.Says.{Says}
 use Rattle.ffx_facts.specs.Pieces.{is_same_kind}
 use Rattle.ffx_facts.specs.Faults.{is_same_fact, states}
@@ -69,7 +70,7 @@ strictly {X} key xs up apart = λ i j d h1 h2.
 
 -- ---- loops
 
-other_loops_of : (a n : ℕ) (kind : Kind) (b : ℕ) (m : Option ℕ) (fs : List LoopFact) → is_same_fact (record { kind = Loop; address = a; count = Some n }) (record { kind = kind; address = b; count = m }) ≡ false
+other_loops_of : (a : ℕ) (n : Bounds) (kind : Kind) (b : ℕ) (m : Option Bounds) (fs : List LoopFact) → is_same_fact (record { kind = Loop; address = a; bounds = Some n }) (record { kind = kind; address = b; bounds = m }) ≡ false
     → AllByRecursion (λ f. (a == f.address) ≡ false) fs → AllByRecursion (λ f. (a == f.address) ≡ false) (loop_fact kind b m ++ fs)
 other_loops_of a n Loop b (Some m) fs h rest = (equal_flips a b ∙ h, rest)
 other_loops_of a n Loop b None fs h rest = rest
@@ -79,14 +80,14 @@ other_loops_of a n MultiBranch b m fs h rest = rest
 other_loops_of a n MultiCall b m fs h rest = rest
 other_loops_of a n Target b m fs h rest = rest
 
-other_loops : (a n : ℕ) (all : List Says) → AllByRecursion (λ t. is_same_fact (record { kind = Loop; address = a; count = Some n }) t ≡ false) all → AllByRecursion (λ f. (a == f.address) ≡ false) (loop_facts all)
+other_loops : (a : ℕ) (n : Bounds) (all : List Says) → AllByRecursion (λ t. is_same_fact (record { kind = Loop; address = a; bounds = Some n }) t ≡ false) all → AllByRecursion (λ f. (a == f.address) ≡ false) (loop_facts all)
 other_loops a n [] h = tt
-other_loops a n (t ∷ all) h = other_loops_of a n t.kind t.address t.count (loop_facts all) h.0 (other_loops a n all h.1)
+other_loops a n (t ∷ all) h = other_loops_of a n t.kind t.address t.bounds (loop_facts all) h.0 (other_loops a n all h.1)
 
 abbrev pub SameLoop : LoopFact → LoopFact → Bool
 SameLoop f g = f.address == g.address
 
-distinct_loops_of : (kind : Kind) (a : ℕ) (n : Option ℕ) (all : List Says) → AllByRecursion (λ t. is_same_fact (record { kind = kind; address = a; count = n }) t ≡ false) all
+distinct_loops_of : (kind : Kind) (a : ℕ) (n : Option Bounds) (all : List Says) → AllByRecursion (λ t. is_same_fact (record { kind = kind; address = a; bounds = n }) t ≡ false) all
     → IsDistinct SameLoop (loop_facts all) → IsDistinct SameLoop (loop_fact kind a n ++ loop_facts all)
 unfolding IsDistinct
 distinct_loops_of Loop a (Some n) all h rest = (other_loops a n all h, rest)
@@ -101,7 +102,7 @@ distinct_loops_of Target a n all h rest = rest
 pub distinct_loops : (all : List Says) → IsDistinct is_same_fact all → IsDistinct SameLoop (loop_facts all)
 unfolding IsDistinct
 distinct_loops [] d = tt
-distinct_loops (s ∷ all) d = distinct_loops_of s.kind s.address s.count all d.0 (distinct_loops all d.1)
+distinct_loops (s ∷ all) d = distinct_loops_of s.kind s.address s.bounds all d.0 (distinct_loops all d.1)
 
 -- ---- jumps and calls
 
@@ -116,7 +117,7 @@ same_kind_is _ _ h = cc
 
 -- elements of the kind always state a fact
 pub record AlwaysStates (kind : Kind) : Type 0 where
-  pub states_fact : (count : Option ℕ) → states kind count ≡ true
+  pub states_fact : (bounds : Option Bounds) → states kind bounds ≡ true
   pub itself : is_same_kind kind kind ≡ true
 
 pub always_states : (kind : Kind) → (kind ≡ MultiBranch) ⊎ (kind ≡ MultiCall) → AlwaysStates kind
@@ -129,8 +130,8 @@ SameTarget f g = f.address == g.address
 -- two elements of such a kind that are not the same fact are at different addresses
 apart_by : (kind : Kind) → AlwaysStates kind → (s t : Says) → s.kind ≡ kind → t.kind ≡ kind → is_same_fact s t ≡ false → (s.address == t.address) ≡ false
 apart_by kind always s t es et h =
-    let one : states s.kind s.count ≡ true = ap (λ (k : Kind). states k s.count) es ∙ always.states_fact s.count in
-    let two : states t.kind t.count ≡ true = ap (λ (k : Kind). states k t.count) et ∙ always.states_fact t.count in
+    let one : states s.kind s.bounds ≡ true = ap (λ (k : Kind). states k s.bounds) es ∙ always.states_fact s.bounds in
+    let two : states t.kind t.bounds ≡ true = ap (λ (k : Kind). states k t.bounds) et ∙ always.states_fact t.bounds in
     let both : is_same_kind t.kind s.kind ≡ true = ap (λ (k : Kind). is_same_kind k s.kind) et ∙ ap (is_same_kind kind) es ∙ always.itself in
     equal_flips s.address t.address ∙ (rw (one, two, both) at h)
 

@@ -48,6 +48,7 @@ element kind place given = record {
   label = value_of given (codes "label");
   offset = value_of given (codes "offset");
   maxcount = value_of given (codes "maxcount");
+  totalcount = value_of given (codes "totalcount");
 }
 
 -- the start tag of an element with the bytes of its attributes, ended by `>` or `/>`

@@ -6,25 +6,26 @@ use Rattle.ffx_facts.specs.declared.kind.Kind.{Kind}
 use Rattle.ffx_facts.specs.declared.kind.Kind.TheVariants.{Loop, MultiBranch, MultiCall}
 use Rattle.ffx_facts.specs.declared.error.FactsError.{FactsError}
 use Rattle.ffx_facts.specs.declared.error.FactsError.TheVariants.{Twice}
+use Rattle.ffx_facts.specs.declared.says.Bounds.{Bounds}
 use Rattle.ffx_facts.specs.declared.says.Says.{Says}
 use Rattle.ffx_facts.specs.Machine.{Element}
 use Rattle.ffx_facts.specs.Pieces.{is_same_kind}
 use Rattle.ffx_facts.specs.Values.{says}
 
--- whether an element of a kind states a fact; a loop does where it has a count
-abbrev pub states : Kind → Option ℕ → Bool
-states Loop count = is_some count
-states MultiBranch count = true
-states MultiCall count = true
-states _ count = false
+-- whether an element of a kind states a fact; a loop does where it has bounds
+abbrev pub states : Kind → Option Bounds → Bool
+states Loop bounds = is_some bounds
+states MultiBranch bounds = true
+states MultiCall bounds = true
+states _ bounds = false
 
 -- whether this is a fact of a kind at an address
 abbrev pub is_fact_at : Kind → ℕ → Says → Bool
-is_fact_at kind address s = states s.kind s.count && is_same_kind s.kind kind && (s.address == address)
+is_fact_at kind address s = states s.kind s.bounds && is_same_kind s.kind kind && (s.address == address)
 
 -- whether two are facts of one kind at one address
 abbrev pub is_same_fact : Says → Says → Bool
-is_same_fact s t = states s.kind s.count && is_fact_at s.kind s.address t
+is_same_fact s t = states s.kind s.bounds && is_fact_at s.kind s.address t
 
 -- what is wrong with an element behind others that said this: what is wrong with it alone, else that it repeats a fact
 abbrev pub fault_behind : List Says → Result Says FactsError → Option FactsError

@@ -21,6 +21,7 @@ pub record Element : Type 0 where
   pub label : Option (List ℕ)
   pub offset : Option (List ℕ)
   pub maxcount : Option (List ℕ)
+  pub totalcount : Option (List ℕ)
 
 -- the value of each name that an attribute of a tag has
 abbrev pub Attributes : Type 0
@@ -170,6 +171,7 @@ read_element s = record {
   label = s.attributes (codes "label");
   offset = s.attributes (codes "offset");
   maxcount = s.attributes (codes "maxcount");
+  totalcount = s.attributes (codes "totalcount");
 }
 
 -- the start tag that is read ends

@@ -9,18 +9,20 @@ use Rattle.wx_base.specs.declared.facts.TargetFact.{TargetFact}
 use Rattle.wx_base.specs.Facts.{FactsAscend}
 use Rattle.ffx_facts.specs.declared.kind.Kind.{Kind}
 use Rattle.ffx_facts.specs.declared.kind.Kind.TheVariants.{Loop, MultiBranch, MultiCall, Target}
+use Rattle.ffx_facts.specs.declared.says.Bounds.{Bounds}
 use Rattle.ffx_facts.specs.declared.says.Says.{Says}
 use Rattle.ffx_facts.specs.Pieces.{is_same_kind}
 
--- the fact of a loop that has a count
-abbrev pub loop_fact : Kind → ℕ → Option ℕ → List LoopFact
-loop_fact Loop address (Some maxcount) = record { address = address; maxcount = maxcount } ∷ []
+-- the fact of a loop that has bounds
+abbrev pub loop_fact : Kind → ℕ → Option Bounds → List LoopFact
+loop_fact Loop address (Some bounds) =
+    record { address = address; maxcount = bounds.maxcount; totalcount = bounds.totalcount } ∷ []
 loop_fact _ address _ = []
 
 -- the facts on loops, in the order of the file
 abbrev pub loop_facts : List Says → List LoopFact
 loop_facts [] = []
-loop_facts (s ∷ all) = loop_fact s.kind s.address s.count ++ loop_facts all
+loop_facts (s ∷ all) = loop_fact s.kind s.address s.bounds ++ loop_facts all
 
 -- the targets that come first
 abbrev pub leading_targets : List Says → List ℕ

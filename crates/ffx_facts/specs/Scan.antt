@@ -21,6 +21,7 @@ element e = record {
   label = value e.label;
   offset = value e.offset;
   maxcount = value e.maxcount;
+  totalcount = value e.totalcount;
 }
 
 -- the state that a scanner stands for

@@ -10,6 +10,7 @@ use Rattle.ffx_facts.specs.declared.kind.Kind.{Kind}
 use Rattle.ffx_facts.specs.declared.kind.Kind.TheVariants.{FlowFacts, Function, Loop, MultiBranch, MultiCall, Target}
 use Rattle.ffx_facts.specs.declared.error.FactsError.{FactsError}
 use Rattle.ffx_facts.specs.declared.error.FactsError.TheVariants.{NoMemory, Syntax, Number, NoAddress, NoSymbol, Twice}
+use Rattle.ffx_facts.specs.declared.says.Bounds.{Bounds}
 use Rattle.ffx_facts.specs.declared.says.Says.{Says}
 use Rattle.ffx_facts.specs.Machine.{Element}
 
@@ -52,7 +53,7 @@ number_in e (Some text) = wanted e (number text)
 abbrev pub is_not_computed : List ℕ → Bool
 is_not_computed text = bytes_eq text (codes "NOCOMP")
 
--- the count of a loop: none where there is none, or where it was not computed
+-- a count of a loop: none where there is none, or where it was not computed
 abbrev pub count_in : Element → Option (List ℕ) → Result (Option ℕ) FactsError
 count_in e None = Ok None
 count_in e (Some text) = if is_not_computed text then Ok None else wanted e (number text)
@@ -79,23 +80,30 @@ address symbols e = do
   offset ← number_in e e.offset
   address_by symbols e address offset
 
+-- The bounds of a loop by its two counts: a total alone bounds each stay too, and without a count there are no bounds.
+abbrev pub bounds_of : Option ℕ → Option ℕ → Option Bounds
+bounds_of (Some maxcount) totalcount = Some (record { maxcount = maxcount; totalcount = totalcount })
+bounds_of None (Some total) = Some (record { maxcount = total; totalcount = Some total })
+bounds_of None None = None
+
 -- what a loop says
 abbrev pub loop_says : List Symbol → Element → Result Says FactsError
 loop_says symbols e = do
-  count ← count_in e e.maxcount
+  maxcount ← count_in e e.maxcount
+  totalcount ← count_in e e.totalcount
   address ← address symbols e
-  Ok (record { kind = Loop; address = address; count = count })
+  Ok (record { kind = Loop; address = address; bounds = bounds_of maxcount totalcount })
 
 -- what another element with an address says
 abbrev pub place_says : Kind → List Symbol → Element → Result Says FactsError
 place_says kind symbols e = do
   address ← address symbols e
-  Ok (record { kind = kind; address = address; count = None })
+  Ok (record { kind = kind; address = address; bounds = None })
 
 -- what an element says, or what is wrong with it alone: a file or a function says nothing
 abbrev pub says_as : Kind → List Symbol → Element → Result Says FactsError
-says_as FlowFacts symbols e = Ok (record { kind = FlowFacts; address = 0; count = None })
-says_as Function symbols e = Ok (record { kind = Function; address = 0; count = None })
+says_as FlowFacts symbols e = Ok (record { kind = FlowFacts; address = 0; bounds = None })
+says_as Function symbols e = Ok (record { kind = Function; address = 0; bounds = None })
 says_as Loop symbols e = loop_says symbols e
 says_as MultiBranch symbols e = place_says MultiBranch symbols e
 says_as MultiCall symbols e = place_says MultiCall symbols e

@@ -15,4 +15,6 @@ pub(crate) struct Element<'a> {
     pub offset: Option<&'a [u8]>,
     /// The value of `maxcount`.
     pub maxcount: Option<&'a [u8]>,
+    /// The value of `totalcount`.
+    pub totalcount: Option<&'a [u8]>,
 }

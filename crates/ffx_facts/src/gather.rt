@@ -35,10 +35,11 @@ fn gather_loops(alloc: Global, all: &[Says]) -> Result<Vec<LoopFact>, AllocError
 {
     let mut loops = Vec::new(alloc);
     for says in all {
-        if let (Kind::Loop, Some(maxcount)) = (says.kind, says.count) {
+        if let (Kind::Loop, Some(bounds)) = (says.kind, says.bounds) {
             loops.push(LoopFact {
                 address: says.address,
-                maxcount,
+                maxcount: bounds.maxcount,
+                totalcount: bounds.totalcount,
             })?;
         }
     }

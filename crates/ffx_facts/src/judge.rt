@@ -3,13 +3,13 @@
 ghost use Rattle.std.specs.Prelude.{◌≡◌, IfErr};
 ghost use Rattle.ffx_facts.specs.declared.error.FactsError.TheVariants as refusal;
 ghost use Rattle.ffx_facts.specs.Scan.{element as seen, value};
-ghost use Rattle.ffx_facts.specs.Values.{IsElementFault, address, address_of_label, count_in, loop_says, number_in, says};
+ghost use Rattle.ffx_facts.specs.Values.{IsElementFault, address, address_of_label, bounds_of, count_in, loop_says, number_in, says};
 
 use crate::element::Element;
 use crate::error::FactsError;
 use crate::kind::Kind;
 use crate::number::read_number;
-use crate::says::Says;
+use crate::says::{Bounds, Says};
 use wx_base::{Symbol, find_symbol};
 
 // What an element says, or what is wrong with it alone.
@@ -24,7 +24,7 @@ pub(crate) fn judge(symbols: &[Symbol], element: &Element) -> Result<Says, Facts
         Kind::FlowFacts | Kind::Function => Ok(Says {
             kind: element.kind,
             address: 0,
-            count: None,
+            bounds: None,
         }),
         Kind::Loop => judge_loop(symbols, element),
         Kind::MultiBranch | Kind::MultiCall | Kind::Target => {
@@ -32,7 +32,7 @@ pub(crate) fn judge(symbols: &[Symbol], element: &Element) -> Result<Says, Facts
             Ok(Says {
                 kind: element.kind,
                 address,
-                count: None,
+                bounds: None,
             })
         }
     }
@@ -43,12 +43,13 @@ fn judge_loop(symbols: &[Symbol], element: &Element) -> Result<Says, FactsError>
     ensures value { result ≡ loop_says symbols.now (seen element.now) }
     ensures fault { IfErr result IsElementFault }
 {
-    let count = read_count(element)?;
+    let maxcount = read_count(element, element.maxcount)?;
+    let totalcount = read_count(element, element.totalcount)?;
     let address = read_address(symbols, element)?;
     Ok(Says {
         kind: Kind::Loop,
         address,
-        count,
+        bounds: bounds_of(maxcount, totalcount),
     })
 }
 
@@ -61,12 +62,23 @@ fn wrong_number(element: &Element) -> FactsError
     }
 }
 
-// The count of a loop: none where it has none or says that it was not computed.
-fn read_count(element: &Element) -> Result<Option<u32>, FactsError>
-    ensures value { result ≡ count_in (seen element.now) (value element.now.maxcount) }
+// The bounds of a loop by its two counts. A total alone bounds each stay too.
+fn bounds_of(maxcount: Option<u32>, totalcount: Option<u32>) -> Option<Bounds>
+    ensures { result ≡ bounds_of maxcount totalcount }
+{
+    let maxcount = maxcount.or(totalcount)?;
+    Some(Bounds {
+        maxcount,
+        totalcount,
+    })
+}
+
+// A count of a loop: none where it has none or says that it was not computed.
+fn read_count(element: &Element, text: Option<&[u8]>) -> Result<Option<u32>, FactsError>
+    ensures value { result ≡ count_in (seen element.now) (value text.entry) }
     ensures fault { IfErr result IsElementFault }
 {
-    match element.maxcount {
+    match text {
         None => Ok(None),
         Some(text) if text == b"NOCOMP".as_slice() => Ok(None),
         Some(text) => match read_number(text) {

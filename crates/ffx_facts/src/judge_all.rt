@@ -50,10 +50,13 @@ impl Seen {
 
     // Whether this is no fact, or the first of its kind at its address; then the address is kept.
     fn is_first(&mut self, says: &Says) -> Result<bool, AllocError>
-        ensures first { IfOk result (λ first. first ≡ not (states says.now.kind says.now.count && was_seen self.old says.now.kind says.now.address)) }
-        ensures seen { OnOk result ((kind : Sort) (address : ℕ) → was_seen self.new kind address ≡ (was_seen self.old kind address || is_fact_at kind address says.now)) }
+        ensures first { IfOk result
+            (λ first. first ≡ not (states says.now.kind says.now.bounds
+            && was_seen self.old says.now.kind says.now.address)) }
+        ensures seen { OnOk result ((kind : Sort) (address : ℕ) → was_seen self.new kind address
+            ≡ (was_seen self.old kind address || is_fact_at kind address says.now)) }
     {
-        match (says.kind, says.count) {
+        match (says.kind, says.bounds) {
             (Kind::Loop, Some(_)) => Ok(self.loops.insert(says.address)?),
             (Kind::MultiBranch, _) => Ok(self.branches.insert(says.address)?),
             (Kind::MultiCall, _) => Ok(self.calls.insert(says.address)?),

@@ -16,13 +16,12 @@ mod scanner;
 mod seen;
 mod state;
 mod tag;
-#[cfg(test)]
-mod tests;
 mod word;
 
 pub use error::FactsError;
 pub use laws::{
-    a_document_is_a_file, a_file_is_a_document, a_file_is_spelled, facts_are_one, spelled_is_a_file,
+    a_document_is_a_file, a_file_is_a_document, a_file_is_spelled, facts_are_one,
+    one_answer_is_due, spelled_is_a_file,
 };
 pub use read::read_facts;
 pub use wx_base::{Addresses, Facts, LoopFact, LoopFacts, TargetFact, TargetFacts};

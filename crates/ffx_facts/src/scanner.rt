@@ -65,7 +65,8 @@ impl<'a> Scanner<'a> {
         requires begun { self.old.start < self.old.place }
         requires last { byte ≡ slice_index self.old.bytes.now (self.old.place - 1) }
         ensures step { IfOk result (λ alive. goes alive (view self.new)
-            (step_in self.old.part (slice_range self.old.bytes.now self.old.start (self.old.place - 1)) (view self.old) byte)) }
+            (step_in self.old.part (slice_range self.old.bytes.now self.old.start (self.old.place - 1))
+            (view self.old) byte)) }
         ensures bytes { self.new.bytes.now ≡ self.old.bytes.now }
         ensures place { self.new.place ≡ self.old.place }
     {
@@ -182,7 +183,9 @@ impl<'a> Scanner<'a> {
 
     // The first of these words that may come and is spelled so.
     fn word_of<'w>(&self, words: &'w [Word], text: &[u8]) -> Option<&'w Word>
-        ensures { option_copied result ≡ find (λ w. may_come self.now.stage (innermost (reverse self.now.nesting.items)) w && bytes_eq (spelling w) text.now) words.now }
+        ensures { option_copied result ≡ find
+            (λ w. may_come self.now.stage (innermost (reverse self.now.nesting.items)) w
+            && bytes_eq (spelling w) text.now) words.now }
     {
         words
             .iter()

@@ -103,6 +103,7 @@ impl<'a> Scanner<'a> {
             label: self.attribute(b"label"),
             offset: self.attribute(b"offset"),
             maxcount: self.attribute(b"maxcount"),
+            totalcount: self.attribute(b"totalcount"),
         }
     }
 
@@ -116,7 +117,8 @@ impl<'a> Scanner<'a> {
     // A byte of an attribute's name, or the one that ends it.
     pub(crate) fn name(&mut self, byte: u8) -> bool
         requires begun { self.old.start < self.old.place }
-        ensures step { goes result (view self.new) (in_name (slice_range self.old.bytes.now self.old.start (self.old.place - 1)) (view self.old) byte) }
+        ensures step { goes result (view self.new)
+            (in_name (slice_range self.old.bytes.now self.old.start (self.old.place - 1)) (view self.old) byte) }
         ensures bytes { self.new.bytes.now ≡ self.old.bytes.now }
         ensures place { self.new.place ≡ self.old.place }
     {
@@ -161,7 +163,9 @@ impl<'a> Scanner<'a> {
     // A byte of an attribute's value, or the quote that ends it.
     pub(crate) fn value(&mut self, byte: u8, quote: u8) -> Result<bool, AllocError>
         requires begun { self.old.start < self.old.place }
-        ensures step { IfOk result (λ alive. goes alive (view self.new) (in_value (slice_range self.old.bytes.now self.old.start (self.old.place - 1)) (view self.old) quote byte)) }
+        ensures step { IfOk result
+            (λ alive. goes alive (view self.new)
+            (in_value (slice_range self.old.bytes.now self.old.start (self.old.place - 1)) (view self.old) quote byte)) }
         ensures bytes { self.new.bytes.now ≡ self.old.bytes.now }
         ensures place { self.new.place ≡ self.old.place }
     {
@@ -175,7 +179,8 @@ impl<'a> Scanner<'a> {
     // The quote that ends an attribute's value was taken.
     fn end_value(&mut self) -> Result<(), AllocError>
         requires begun { self.old.start < self.old.place }
-        ensures step { OnOk result (view self.new ≡ ended_value (slice_range self.old.bytes.now self.old.start (self.old.place - 1)) (view self.old)) }
+        ensures step { OnOk result (view self.new
+            ≡ ended_value (slice_range self.old.bytes.now self.old.start (self.old.place - 1)) (view self.old)) }
         ensures bytes { self.new.bytes.now ≡ self.old.bytes.now }
         ensures place { self.new.place ≡ self.old.place }
     {

@@ -1,19 +1,18 @@
 -- A function of an image, from its outline by numbers.
-use Rattle.std.proofs.Common.{◌≡◌, ℕ, ◌+◌, ◌<◌, Bool, List, [], ◌∷◌, ◌++◌, length, get_or, map, take, Option, Some, None, refl, sym, ap, subst, ◌∙◌, inl, inr, arith}
+use Rattle.std.proofs.Common.{◌≡◌, ℕ, ◌+◌, ◌<◌, Bool, List, [], ◌∷◌, ◌++◌, length, get_or, map, take, Some, refl, sym, ap, subst, ◌∙◌, inl, inr, arith}
 use Rattle.std.proofs.Math.ListN.{get_or-append}
-use Rattle.std.proofs.lemmas.Bool.{cases_lt, false≢true}
+use Rattle.std.proofs.lemmas.Bool.{cases_lt}
 use Rattle.std.proofs.lemmas.Grind.{common_steps}
 use Rattle.std.proofs.lemmas.List.{ext_get_or, get_or-map, get_or_default, get_or_push, length-map, map_push, take_more}
 use Rattle.std.proofs.lemmas.List.Elements.{All-map, All-push, Contains-get_or}
 use Rattle.std.proofs.lemmas.Option.{slice_get_within, slice_get-get_or, get_or_from_slice_get}
 use Rattle.std.specs.List.{All, Contains, slice_get}
-use Rattle.std.specs.Prelude.{slice_index, IsSome, unwrap_or}
+use Rattle.std.specs.Prelude.{slice_index}
 use Rattle.arm_code.specs.declared.insn.Insn.{Insn}
 use Rattle.wx_base.specs.declared.facts.Facts.{Facts}
 use Rattle.wx_base.specs.declared.image.Image.{Image}
 use Rattle.wx_base.specs.declared.machine.Machine.{Machine}
-use Rattle.wx_base.specs.Functions.{ways_at, bound_of, IsLoop, AreLoops}
-use Rattle.wx_base.specs.Monitor.{BoundedLoop}
+use Rattle.wx_base.specs.Functions.{ways_at, IsLoop, AreLoops}
 use Rattle.wx_base.specs.Paths.{IsHead, IsMember, Path}
 use Rattle.graph_loops.specs.Graph.{edges, AreReached}
 use Rattle.graph_loops.specs.Loops as graph
@@ -21,10 +20,10 @@ use Rattle.graph_loops.specs.declared.loops.Loop.{Loop}
 use Rattle.flow_graph.specs.declared.outline.Outline.{Outline}
 use Rattle.flow_graph.specs.declared.program.Function.{Function}
 use Rattle.flow_graph.specs.declared.program.LoopInfo.{LoopInfo}
-use Rattle.flow_graph.specs.Code.{IsCode}
+use Rattle.flow_block.specs.Code.{IsCode}
 use Rattle.flow_graph.specs.Listing.{IsListing}
 use Rattle.flow_graph.specs.Numbers.{IsNumbering}
-use Rattle.flow_graph.specs.Outlines.{IsOutline, IsFunction, HasBounds, IsLoopInfo, AreLoopInfos, AreFunctionsOf}
+use Rattle.flow_graph.specs.Outlines.{IsOutline, IsFunction, IsLoopInfo, AreLoopInfos, AreFunctionsOf}
 use Rattle.flow_graph.specs.Program.{bounded_loop}
 use Rattle.flow_graph.proofs.Numbered.{free_path_to, free_path_from}
 use Rattle.flow_graph.proofs.NumberedLists.{AreJust, any_with_key, pairs_mapped}
@@ -88,10 +87,6 @@ told {loops = loops} {infos = infos} are k d h =
 
 -- ---- the loops of a function
 
-some_of : (o : Option ℕ) → IsSome o → o ≡ Some (unwrap_or o 0)
-some_of None h = absurd (false≢true h)
-some_of (Some n) h = refl
-
 loops_just : (ways : List (List ℕ)) (e : ℕ) (loops : List Loop) → graph.AreLoops ways e loops → AreJust (IsHead (edges ways) e) (map (λ l. l.head) loops)
 loops_just ways e loops are = record {
   ascending = pairs_mapped (λ h k. h < k) (λ (l : Loop). l.head) loops are.ascending;
@@ -132,29 +127,22 @@ same_heads facts addresses loops infos are = ext_get_or 0 (map (λ b. b.head) (m
     ∙ sym (get_or-map (slice_index addresses) (map (λ l. l.head) loops) i 0 0 in_heads))
 
 module _ {image : Image} {facts : Facts} {addresses : List ℕ} {ways : List (List ℕ)} (is : IsNumbering addresses ways (ways_at image facts)) where
-  one_loop : (e : ℕ) → e < length addresses → (l : Loop) (info : LoopInfo) → graph.IsLoop ways e l → IsLoopInfo facts addresses l info → IsSome (bound_of facts (slice_index addresses l.head))
+  one_loop : (e : ℕ) → e < length addresses → (l : Loop) (info : LoopInfo) → graph.IsLoop ways e l → IsLoopInfo facts addresses l info
       → IsLoop image facts (slice_index addresses e) (bounded_loop info)
-  one_loop e he l info one is_info some =
+  one_loop e he l info one is_info =
       let just : AreJust (IsMember (edges ways) e l.head) l.members = record { ascending = one.ascending; sound = λ a c. (one.exact a).0 c; whole = λ a m. (one.exact a).1 m } in
-      let bound : bound_of facts (slice_index addresses l.head) ≡ Some info.maxcount =
-      some_of (bound_of facts (slice_index addresses l.head)) some ∙ ap (λ (h : ℕ). Some (unwrap_or (bound_of facts h) 0)) (sym is_info.head) ∙ ap Some (sym is_info.maxcount) in
-      let head = sym is_info.head in
-      let members = sym is_info.members in
-      let by_numbers : BoundedLoop = record { head = slice_index addresses l.head; members = map (slice_index addresses) l.members; maxcount = info.maxcount } in
-      let same : by_numbers ≡ bounded_loop info = λ i. record { head = head i; members = members i; maxcount = info.maxcount } in
-      subst (λ (b : BoundedLoop). IsLoop image facts (slice_index addresses e) b) same (loop_to is e l.head info.maxcount l.members he one.head just bound)
+      loop_to is e l.head l.members (bounded_loop info) he one.head just is_info.head is_info.members is_info.bounds
 
   -- the loops of an outline with their addresses and bounds are the loops of the function
-  pub function_loops : (o : Outline) (infos : List LoopInfo) → o.entry < length addresses → IsOutline ways o → HasBounds facts addresses o → AreLoopInfos facts addresses o.structure.loops infos
+  pub function_loops : (o : Outline) (infos : List LoopInfo) → o.entry < length addresses → IsOutline ways o → AreLoopInfos facts addresses o.structure.loops infos
       → AreLoops image facts (slice_index addresses o.entry) (map bounded_loop infos)
-  function_loops o infos he outline bounds are =
+  function_loops o infos he outline are =
       let e = o.entry in
       let loops = o.structure.loops in
       loops_to is e (map (λ l. l.head) loops) (map bounded_loop infos) he (loops_just ways e loops outline.loops) (same_heads facts addresses loops infos are)
       (All-map (λ b. IsLoop image facts (slice_index addresses e) b) bounded_loop infos (λ k d h.
       let t = told are k d h in
-      one_loop e he t.loop (get_or infos k d) (subst (λ (l : Loop). graph.IsLoop ways e l) t.at (outline.loops.each k t.loop t.within)) t.is
-      (subst (λ (l : Loop). IsSome (bound_of facts (slice_index addresses l.head))) t.at (bounds.each k t.loop t.within))))
+      one_loop e he t.loop (get_or infos k d) (subst (λ (l : Loop). graph.IsLoop ways e l) t.at (outline.loops.each k t.loop t.within)) t.is))
 
 -- ---- what is marked by a walk from an entry
 

@@ -1,7 +1,7 @@
 -- How the numbers of addresses are gathered, and what the lists of all sites say together.
 use Rattle.std.proofs.Common.{◌≡◌, ◌↔◌, ℕ, zero, suc, ◌+◌, ◌<◌, List, [], ◌∷◌, ◌++◌, length, get_or, map, take, Some, None, refl, sym, ap, subst, ◌∙◌, inl, inr, arith, ◌^◌}
 use Rattle.std.proofs.lemmas.Bool.{cases_lt}
-use Rattle.std.proofs.lemmas.List.{get_or-map, get_or_past, get_or_append_left, get_or_push, length-map, length_push, map_more, map_push, take_more}
+use Rattle.std.proofs.lemmas.List.{get_or_default, get_or-map, get_or_past, get_or_append_left, get_or_push, length-map, length_push, map_more, map_push, take_more}
 use Rattle.std.proofs.lemmas.List.Elements.{Contains-get_or, Contains-push_cases}
 use Rattle.std.specs.List.{All, AllZip, Any, Contains}
 use Rattle.std.specs.Prelude.{slice_index}
@@ -13,9 +13,10 @@ use Rattle.wx_base.specs.Functions.{ways_at, callees_at, IsReached}
 use Rattle.arm_code.specs.declared.insn.Insn.{Insn}
 use Rattle.arm_code.specs.Encoding.{decoded}
 use Rattle.graph_loops.specs.Graph.{edges, lists_of, IsGraph}
+use Rattle.flow_graph.specs.declared.listing.Listing.{Listing}
 use Rattle.flow_graph.specs.declared.site.Site.{Site}
-use Rattle.flow_graph.specs.Code.{IsInsn, IsPlace}
-use Rattle.flow_graph.specs.Listing.{ArePlaces, AreRows, IsListing, IsWordOf}
+use Rattle.flow_block.specs.Code.{IsInsn, IsPlace, IsThere}
+use Rattle.flow_graph.specs.Listing.{ArePlaces, AreRows, IsListed, IsListing, IsListOf, IsWordOf}
 use Rattle.flow_graph.specs.Numbers.{IsNumbering}
 use Rattle.flow_graph.specs.Reached.{AreSites, IsClosed, IsSite}
 use Rattle.flow_graph.proofs.Numbered.{numbering_from}
@@ -25,6 +26,9 @@ none_there : {X : Type 0} (v : X) → Contains [] v → ⊥
 none_there v h = absurd (omega (arith, h.1))
 
 -- ---- places
+
+pub there : (addresses : List ℕ) (a : ℕ) → Contains addresses a → IsThere addresses a
+there addresses a h = record { place = h.0; at = record { within = h.1; stands = get_or_default addresses h.0 0 a h.1 ∙ h.2 } }
 
 pub place_more : (addresses list places : List ℕ) (a j : ℕ) → ArePlaces addresses list places → j < length addresses → slice_index addresses j ≡ a
     → ArePlaces addresses (list ++ a ∷ []) (places ++ j ∷ [])
@@ -195,3 +199,11 @@ module _ {image : Image} {facts : Facts} {start : ℕ} (sites : List Site) (are 
           let within : place < length sites = omega (arith, length-map sites (λ s. s.address), h) in
           at_key (λ a. IsInsn image a (get_or insns place d)) (λ s. s.address) sites place within
           (λ s. stands (get_or sites place s) (get_or insns place d) (are.each place s within) (zip_at (λ (s : Site) insn. IsWordOf s.word insn) sites insns place s d read within))
+
+  pub listing_from : (l : Listing) → IsListOf sites l → IsListed image facts start l
+  listing_from l of =
+      let calls = lists_of l.calls.items in
+      subst (λ (xs : List ℕ). IsListing image facts start xs l.insns.items l.ways calls) (sym of.addresses)
+      (listing_of l.insns.items l.ways calls (subst (λ (xs : List ℕ). All (λ x. x < 2 ^ 32) xs) of.addresses of.small) of.insns
+      (subst (λ (xs : List ℕ). AreRows xs (map (λ s. s.ways.items) sites) l.ways) of.addresses of.ways)
+      (subst (λ (xs : List ℕ). AreRows xs (map (λ s. s.callees.items) sites) calls) of.addresses of.calls))

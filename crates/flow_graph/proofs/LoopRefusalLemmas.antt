@@ -5,9 +5,10 @@ use Rattle.std.proofs.lemmas.List.{get_or_default}
 use Rattle.std.specs.List.{All, Any}
 use Rattle.std.specs.Prelude.{slice_index, IsSome}
 use Rattle.wx_base.specs.declared.facts.Facts.{Facts}
+use Rattle.wx_base.specs.declared.facts.LoopFact.{LoopFact}
 use Rattle.wx_base.specs.declared.image.Image.{Image}
 use Rattle.wx_base.specs.declared.machine.Machine.{Machine}
-use Rattle.wx_base.specs.Functions.{ways_at, bound_of, IsEntry}
+use Rattle.wx_base.specs.Functions.{ways_at, fact_of, IsEntry}
 use Rattle.wx_base.specs.Paths.{IsHead, IsOnForwardCycle}
 use Rattle.arm_code.specs.declared.insn.Insn.{Insn}
 use Rattle.graph_loops.specs.Graph.{edges}
@@ -106,7 +107,7 @@ module _ {image : Image} {facts : Facts} {start : ℕ} {addresses : List ℕ} {i
         is = n.is;
         holds = record {
           head = (found.1, o, found.2, found.3, inner);
-          unbounded = subst (λ a. bound_of facts a ≡ None) n.is u.unbounded;
+          unbounded = subst (λ a. fact_of facts a ≡ None) n.is u.unbounded;
         };
       }
 
@@ -114,15 +115,15 @@ module _ {image : Image} {facts : Facts} {start : ℕ} {addresses : List ℕ} {i
   pub all_bounded : ((v : ℕ) → IsUnboundedNumber facts addresses outlines v → ⊥) → All (λ o. HasBounds facts addresses o) outlines
   all_bounded none k d within = record { each = each }
     where
-      some_or_none : (b : Option ℕ) → (b ≡ None → ⊥) → IsSome b
+      some_or_none : (b : Option LoopFact) → (b ≡ None → ⊥) → IsSome b
       some_or_none None h = absurd (h refl)
-      some_or_none (Some n) h = refl
+      some_or_none (Some f) h = refl
 
-      each : All (λ l. IsSome (bound_of facts (slice_index addresses l.head))) (get_or outlines k d).structure.loops
+      each : All (λ l. IsSome (fact_of facts (slice_index addresses l.head))) (get_or outlines k d).structure.loops
       each i l inside =
           let o = get_or outlines k d in
           let m = get_or o.structure.loops i l in
-          some_or_none (bound_of facts (slice_index addresses m.head)) λ e.
+          some_or_none (fact_of facts (slice_index addresses m.head)) λ e.
           none m.head (record { head = (k, o, within, get_or_default outlines k o d within, (i, m, inside, get_or_default o.structure.loops i m l inside, refl)); unbounded = e })
 
   -- the least number on a cycle stands for the refusal that is due

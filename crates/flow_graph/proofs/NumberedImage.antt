@@ -4,7 +4,7 @@ use Rattle.std.specs.List.{All}
 use Rattle.std.specs.Prelude.{slice_index}
 use Rattle.wx_base.specs.declared.facts.Facts.{Facts}
 use Rattle.wx_base.specs.declared.image.Image.{Image}
-use Rattle.wx_base.specs.Functions.{ways_at, bound_of, IsLoop, AreLoops}
+use Rattle.wx_base.specs.Functions.{ways_at, fact_of, fact_on, IsLoop, AreLoops}
 use Rattle.wx_base.specs.Monitor.{BoundedLoop}
 use Rattle.wx_base.specs.Paths.{IsHead, IsMember}
 use Rattle.graph_loops.specs.Graph.{edges}
@@ -13,13 +13,16 @@ use Rattle.flow_graph.proofs.NumberedLists.{AreJust, any_with_key, pairs_from_ma
 use Rattle.flow_graph.proofs.NumberedLoops.{head_within, head_to, just_heads, just_members}
 
 module _ {image : Image} {facts : Facts} {addresses : List ℕ} {numbered : List (List ℕ)} (is : IsNumbering addresses numbered (ways_at image facts)) where
-  -- a loop of numbers, with the bound that the facts give its head
-  pub loop_to : (e h maxcount : ℕ) (members : List ℕ) → e < length addresses → IsHead (edges numbered) e h → AreJust (IsMember (edges numbered) e h) members
-      → bound_of facts (slice_index addresses h) ≡ Some maxcount
-      → IsLoop image facts (slice_index addresses e) (record { head = slice_index addresses h; members = map (slice_index addresses) members; maxcount = maxcount })
-  loop_to e h maxcount members he head just bound =
-      let mapped = just_members is e h members he (head_within is he head) just in
-      record { head = head_to is he head; bound = bound; ascending = mapped.ascending; members = mapped.sound; whole = mapped.whole }
+  -- a loop of numbers with its addresses, and with the bounds that the facts give its head
+  pub loop_to : (e h : ℕ) (members : List ℕ) (loop : BoundedLoop) → e < length addresses → IsHead (edges numbered) e h → AreJust (IsMember (edges numbered) e h) members
+      → loop.head ≡ slice_index addresses h → loop.members ≡ map (slice_index addresses) members → fact_of facts loop.head ≡ Some (fact_on loop)
+      → IsLoop image facts (slice_index addresses e) loop
+  loop_to e h members loop he head just at_head are bounds =
+      let entry = slice_index addresses e in
+      let leads = ways_at image facts in
+      let mapped = subst (AreJust (IsMember leads entry (slice_index addresses h))) (sym are) (just_members is e h members he (head_within is he head) just) in
+      let there = subst (λ (a : ℕ). AreJust (IsMember leads entry a) loop.members) (sym at_head) mapped in
+      record { head = subst (λ (a : ℕ). IsHead leads entry a) (sym at_head) (head_to is he head); bounds = bounds; ascending = there.ascending; members = there.sound; whole = there.whole }
 
   -- loops with the addresses of exactly the heads are all the loops
   pub loops_to : (e : ℕ) (heads : List ℕ) (loops : List BoundedLoop) → e < length addresses → AreJust (IsHead (edges numbered) e) heads

@@ -9,7 +9,8 @@ use Rattle.std.specs.List.{All, AllPairs, Any}
 use Rattle.std.specs.Prelude.{IsTrue}
 use Rattle.std.specs.Option.{is_some}
 use Rattle.wx_base.specs.declared.facts.Facts.{Facts}
-use Rattle.wx_base.specs.Functions.{bound_of}
+use Rattle.wx_base.specs.declared.facts.LoopFact.{LoopFact}
+use Rattle.wx_base.specs.Functions.{fact_of}
 use Rattle.graph_loops.specs.declared.loops.Loop.{Loop}
 use Rattle.flow_graph.specs.declared.outline.Outline.{Outline}
 use Rattle.flow_graph.specs.Listing.{IsLeast}
@@ -110,33 +111,33 @@ module _ {X : Type 0} (P : X → ℕ → Type 0) (xs : List X) where
 
 -- ---- heads without a bound
 
-none_of : (o : Option ℕ) → is_some o ≡ false → o ≡ None
+none_of : (o : Option LoopFact) → is_some o ≡ false → o ≡ None
 none_of None e = refl
-none_of (Some n) e = absurd (false≢true (sym e))
+none_of (Some f) e = absurd (false≢true (sym e))
 
-not_none : (o : Option ℕ) → is_some o ≡ true → o ≡ None → ⊥
+not_none : (o : Option LoopFact) → is_some o ≡ true → o ≡ None → ⊥
 not_none o e none = false≢true (sym (ap is_some none) ∙ e)
 
 module _ (facts : Facts) (addresses : List ℕ) where
   -- a number is the head of a loop, and no fact bounds it
   abbrev pub IsUnboundedHead : Loop → ℕ → Type 0
-  IsUnboundedHead l v = (l.head ≡ v) × (bound_of facts (get_or addresses v 0) ≡ None)
+  IsUnboundedHead l v = (l.head ≡ v) × (fact_of facts (get_or addresses v 0) ≡ None)
 
   -- a number is the head of one of some loops, and no fact bounds it
   abbrev pub HasUnboundedHead : Outline → ℕ → Type 0
-  HasUnboundedHead o v = Any (λ l. l.head ≡ v) o.structure.loops × (bound_of facts (get_or addresses v 0) ≡ None)
+  HasUnboundedHead o v = Any (λ l. l.head ≡ v) o.structure.loops × (fact_of facts (get_or addresses v 0) ≡ None)
 
-  pub head_unbounded : (l : Loop) (bound : Option ℕ) → bound ≡ bound_of facts (get_or addresses l.head 0) → is_some bound ≡ false → IsLeast (IsUnboundedHead l) (Some l.head)
-  head_unbounded l bound e none = ((refl, sym e ∙ none_of bound none), λ v h. omega (arith, h.0))
+  pub head_unbounded : (l : Loop) (fact : Option LoopFact) → fact ≡ fact_of facts (get_or addresses l.head 0) → is_some fact ≡ false → IsLeast (IsUnboundedHead l) (Some l.head)
+  head_unbounded l fact e none = ((refl, sym e ∙ none_of fact none), λ v h. omega (arith, h.0))
 
-  pub head_bounded : (l : Loop) (bound : Option ℕ) → bound ≡ bound_of facts (get_or addresses l.head 0) → is_some bound ≡ true → (v : ℕ) → IsUnboundedHead l v → ⊥
-  head_bounded l bound e some v h = not_none bound some (e ∙ ap (λ (x : ℕ). bound_of facts (get_or addresses x 0)) h.0 ∙ h.1)
+  pub head_bounded : (l : Loop) (fact : Option LoopFact) → fact ≡ fact_of facts (get_or addresses l.head 0) → is_some fact ≡ true → (v : ℕ) → IsUnboundedHead l v → ⊥
+  head_bounded l fact e some v h = not_none fact some (e ∙ ap (λ (x : ℕ). fact_of facts (get_or addresses x 0)) h.0 ∙ h.1)
 
   -- what is said of some loop with the head, and what is said of the head alone
   pub least_head : (loops : List Loop) (a : Option ℕ) → IsLeast (λ v. Any (λ l. IsUnboundedHead l v) loops) a
-      → IsLeast (λ v. Any (λ l. l.head ≡ v) loops × (bound_of facts (get_or addresses v 0) ≡ None)) a
+      → IsLeast (λ v. Any (λ l. l.head ≡ v) loops × (fact_of facts (get_or addresses v 0) ≡ None)) a
   least_head loops a p =
-      least_same (λ v. Any (λ l. IsUnboundedHead l v) loops) (λ v. Any (λ l. l.head ≡ v) loops × (bound_of facts (get_or addresses v 0) ≡ None)) a
+      least_same (λ v. Any (λ l. IsUnboundedHead l v) loops) (λ v. Any (λ l. l.head ≡ v) loops × (fact_of facts (get_or addresses v 0) ≡ None)) a
       (λ v h. ((h.0, h.1, h.2, h.3, h.4.0), h.4.1)) (λ v h. let k = h.0 in (k.0, k.1, k.2, k.3, (k.4, h.1))) p
 
   pub least_unbounded_number : (outlines : List Outline) (a : Option ℕ) → IsLeast (λ v. Any (λ o. HasUnboundedHead o v) outlines) a

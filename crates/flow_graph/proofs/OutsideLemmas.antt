@@ -11,7 +11,7 @@ use Rattle.wx_base.specs.declared.image.Image.{Image}
 use Rattle.wx_base.specs.Image.{is_code_word}
 use Rattle.flow_graph.specs.declared.site.Site.{Site}
 use Rattle.flow_graph.specs.Reached.{IsLeastOutside, IsLeastWith, LeadsOutFirst, gone_to, leads_of, next_of}
-use Rattle.flow_graph.proofs.FactLemmas.{equal_is, less_is, greater_is}
+use Rattle.flow_graph.proofs.Comparisons.{equal_is, less_is, greater_is}
 
 -- the one element of a list
 pub only : {a x : ℕ} → Contains (a ∷ []) x → a ≡ x

@@ -26,7 +26,7 @@ use Rattle.wx_base.specs.Image.{is_code_word, word_of}
 use Rattle.wx_base.specs.Paths.{Path, here, further}
 use Rattle.flow_graph.specs.declared.site.Site.{Site}
 use Rattle.flow_graph.specs.Reached.{IsSite, IsGrownBy, AreFound, AreSites}
-use Rattle.flow_graph.proofs.FactLemmas.{equal_is, less_is, greater_is}
+use Rattle.flow_graph.proofs.Comparisons.{equal_is, less_is, greater_is}
 
 -- equal numbers, by the test
 pub eq_is : (x y : ℕ) → nat_eq x y ≡ true → x ≡ y

@@ -25,8 +25,8 @@ use Rattle.flow_graph.specs.declared.error.FlowError.TheVariants.{NoMemory, Unsu
 use Rattle.flow_graph.specs.declared.site.Site.{Site}
 use Rattle.flow_graph.specs.Reached.{IsSite, AreSites, IsClosed, IsLeastOutside, LeadsOut, LeadsOutFirst, gone_to, is_untold, leads_of, next_of}
 use Rattle.flow_graph.specs.Refusals.{IsForeign, IsGoneTo, IsOutside, IsUntold, IsBadTarget, IsCause, IsFirst, IsNotAfter, rank}
-use Rattle.flow_graph.specs.Sites.{behind, flow_at, jumps_at, jumps_by}
-use Rattle.flow_graph.proofs.FactLemmas.{equal_is, less_is, greater_is}
+use Rattle.flow_block.specs.Sites.{behind, flow_at, jumps_at, jumps_by}
+use Rattle.flow_graph.proofs.Comparisons.{equal_is, less_is, greater_is}
 use Rattle.flow_graph.proofs.OutsideLemmas.{only, nothing}
 use Rattle.flow_graph.proofs.ReachLemmas.{led}
 

@@ -16,7 +16,7 @@ use Rattle.wx_base.specs.Bits.{add_words}
 use Rattle.wx_base.specs.Facts.{AreAscending, TargetsAscend, targets_of}
 use Rattle.wx_base.specs.Ways.{ways_by}
 use Rattle.flow_graph.specs.Reached.{IsSetOf}
-use Rattle.flow_graph.proofs.FactLemmas.{equal_is, less_is, greater_is, rises}
+use Rattle.flow_graph.proofs.Comparisons.{equal_is, less_is, greater_is, rises}
 
 -- an ascending list is the set of its elements
 pub set_itself : (xs : List ℕ) → AreAscending xs → IsSetOf xs xs

@@ -1,27 +1,22 @@
--- The program of an image from its functions, and that its number of blocks is one.
-use Rattle.std.proofs.Common.{◌≡◌, ℕ, suc, ◌<◌, Bool, List, [], ◌∷◌, length, map, get_or, refl, sym, ap, ◌∙◌, subst, arith}
+-- The program of an image from its functions.
+use Rattle.std.proofs.Common.{◌≡◌, ℕ, ◌<◌, Bool, List, map, refl, sym, ap, ◌∙◌, subst, arith}
 use Rattle.std.proofs.lemmas.List.{get_or-map, length-map}
 use Rattle.std.proofs.lemmas.List.Elements.{All-map}
-use Rattle.std.specs.List.{All, AllPairs, Any, Contains, sum}
+use Rattle.std.specs.List.{All, AllPairs, Any, Contains}
 use Rattle.std.specs.Prelude.{slice_index}
 use Rattle.wx_base.specs.declared.facts.Facts.{Facts}
 use Rattle.wx_base.specs.declared.image.Image.{Image}
 use Rattle.wx_base.specs.declared.machine.Machine.{Machine}
 use Rattle.wx_base.specs.Functions.{IsEntry, AreLoops}
-use Rattle.wx_base.specs.Monitor as monitor
 use Rattle.arm_code.specs.declared.insn.Insn.{Insn}
-use Rattle.flow_graph.specs.declared.block.Block.{Block}
 use Rattle.flow_graph.specs.declared.outline.Outline.{Outline}
 use Rattle.flow_graph.specs.declared.program.Function.{Function}
-use Rattle.flow_graph.specs.declared.program.Program.{Program}
-use Rattle.flow_graph.specs.Blocks.{AreBlocks, Begins, IsBlock}
 use Rattle.flow_graph.specs.Listing.{IsListing, IsStart}
 use Rattle.flow_graph.specs.Outlines.{AreOutlines, AreFunctionsOf}
-use Rattle.flow_graph.specs.Program.{IsProgram, judged_function, rules_of, block_count}
+use Rattle.flow_graph.specs.Program.{IsProgram, judged_function}
 use Rattle.flow_graph.proofs.NumberedEntries.{entry_from}
 use Rattle.flow_graph.proofs.LoopRefusalLemmas.{outline_within, outline_entry}
 use Rattle.flow_graph.proofs.NumberedLists.{keys_ascend, pairs_mapped, pairs_from_mapped, any_with_key}
-use Rattle.flow_graph.proofs.RulesOne.{numbers_one, rules_one}
 
 -- what holds of each image holds of the image of each
 all_unmapped : {X Y : Type 0} (P : Y → Type 0) (f : X → Y) (xs : List X) → All P (map f xs) → All (λ x. P (f x)) xs
@@ -36,52 +31,6 @@ any_mapped P f xs a =
 key_listed : {X : Type 0} (key : X → ℕ) (xs : List X) (k : ℕ) → Any (λ x. key x ≡ k) xs → Contains (map key xs) k
 key_listed key xs k a =
     (a.0, omega (arith, length-map xs key, a.2), get_or-map key xs a.0 a.1 k a.2 ∙ ap key a.3 ∙ a.4)
-
--- the starts of a function's blocks are where its blocks begin, so two lists of them have one length
-starts_one : (image : Image) (facts : Facts) (machine : Machine) (entry : ℕ) (bs cs : List Block) → AreBlocks image facts machine entry bs → AreBlocks image facts machine entry cs
-    → length bs ≡ length cs
-starts_one image facts machine entry bs cs p q =
-    let start : Block → ℕ = λ b. b.start in
-    let lists = numbers_one (Begins image facts machine entry) (map start bs) (map start cs)
-    (pairs_mapped (λ a b. a < b) start bs p.ascending) (begin_at bs p) (λ a b. key_listed start bs a (p.whole a b))
-    (pairs_mapped (λ a b. a < b) start cs q.ascending) (begin_at cs q) (λ a b. key_listed start cs a (q.whole a b)) in
-    sym (length-map bs start) ∙ ap length lists ∙ length-map cs start
-  where
-    begin_at : (bs : List Block) → AreBlocks image facts machine entry bs → (a : ℕ) → Contains (map (λ b. b.start) bs) a → Begins image facts machine entry a
-    begin_at bs p a c =
-        let found = any_with_key (λ b. b.start) bs a c in
-        subst (Begins image facts machine entry) found.4 (subst (λ b. IsBlock image facts machine entry b) found.3 (p.each found.0 found.1 found.2)).begins
-
-abbrev without_first : List ℕ → List ℕ
-without_first [] = []
-without_first (x ∷ xs) = xs
-
--- functions with the same entries have the same numbers of blocks
-counts_one : (image : Image) (facts : Facts) (machine : Machine) (fs gs : List Function) → map (λ f. f.entry) fs ≡ map (λ f. f.entry) gs
-    → All (λ f. AreBlocks image facts machine f.entry f.blocks) fs → All (λ f. AreBlocks image facts machine f.entry f.blocks) gs
-    → map (λ f. length f.blocks) fs ≡ map (λ f. length f.blocks) gs
-counts_one image facts machine [] [] e p q = refl
-counts_one image facts machine [] (g ∷ gs) e p q = absurd (omega (arith, ap length e))
-counts_one image facts machine (f ∷ fs) [] e p q = absurd (omega (arith, ap length e))
-counts_one image facts machine (f ∷ fs) (g ∷ gs) e p q =
-    let first : f.entry ≡ g.entry = ap (λ xs. get_or xs 0 0) e in
-    let others : map (λ f. f.entry) fs ≡ map (λ f. f.entry) gs = ap without_first e in
-    let one = starts_one image facts machine g.entry f.blocks g.blocks (subst (λ x. AreBlocks image facts machine x f.blocks) first (p 0 f (omega arith))) (q 0 g (omega arith)) in
-    let more = counts_one image facts machine fs gs others (λ k d within. p (suc k) d (omega arith)) (λ k d within. q (suc k) d (omega arith)) in
-    λ i. one i ∷ more i
-
--- two programs of an image have the same number of blocks
-pub block_count_one : (image : Image) (facts : Facts) (start : ℕ) (machine : Machine) (p q : Program) → IsProgram image facts start machine p → IsProgram image facts start machine q
-    → block_count p ≡ block_count q
-block_count_one image facts start machine p q is_p is_q =
-    let rules = rules_one image facts start (rules_of facts p) (rules_of facts q) is_p.rules is_q.rules in
-    let same : map judged_function p.functions ≡ map judged_function q.functions = ap (λ r. r.functions) rules in
-    let entries : map (λ f. f.entry) p.functions ≡ map (λ f. f.entry) q.functions = sym (entries_of p.functions) ∙ ap (map (λ f. f.entry)) same ∙ entries_of q.functions in
-    ap sum (counts_one image facts machine p.functions q.functions entries is_p.blocks is_q.blocks)
-  where
-    entries_of : (fs : List Function) → map (λ (f : monitor.Function). f.entry) (map judged_function fs) ≡ map (λ f. f.entry) fs
-    entries_of [] = refl
-    entries_of (f ∷ fs) = ap (λ xs. f.entry ∷ xs) (entries_of fs)
 
 module _ {image : Image} {facts : Facts} {start : ℕ} {machine : Machine} {addresses : List ℕ} {insns : List Insn} {ways calls : List (List ℕ)} {marks : List Bool} {outlines : List Outline}
     (is : IsListing image facts start addresses insns ways calls) (begins : IsStart addresses calls start marks) (all : AreOutlines ways marks outlines)

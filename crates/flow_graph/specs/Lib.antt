@@ -1,9 +1,3 @@
-pub mod Sites
-pub mod Blocks
-pub mod Code
-pub mod Events
-pub mod Growth
-pub mod Starts
 pub mod Program
 pub mod Refusals
 pub mod Numbers

@@ -1,5 +1,6 @@
 -- The instructions that are reached of an image, numbered in the order of their addresses. This project's own.
-use Rattle.std.specs.Prelude.{◌≡◌, ◌<◌, ◌≤◌, ℕ, Bool, false, IsTrue, List, [], ◌++◌, Decides, map, length, slice_index, slice_index_or, Contains, Option, Some, None, ◌^◌}
+use Rattle.std.specs.Prelude.{◌≡◌, ◌<◌, ◌≤◌, ℕ, Bool, false, IsTrue, List, [], ◌++◌, Decides, map, length, slice_index, slice_index_or, All, Contains, Option, Some, None, ◌^◌}
+use Rattle.std.specs.List.{AllZip}
 use Rattle.wx_base.specs.declared.facts.Facts.{Facts}
 use Rattle.wx_base.specs.declared.image.Image.{Image}
 use Rattle.wx_base.specs.Facts.{AreAscending}
@@ -7,9 +8,10 @@ use Rattle.wx_base.specs.Functions.{ways_at, callees_at, IsReached}
 use Rattle.wx_base.specs.Paths.{Path}
 use Rattle.arm_code.specs.declared.insn.Insn.{Insn}
 use Rattle.arm_code.specs.Encoding.{IsValid, decoded, word_of}
-use Rattle.flow_graph.specs.Code.{IsInsn, IsPlace}
+use Rattle.flow_block.specs.Code.{IsInsn, IsPlace}
 use Rattle.graph_loops.specs.Graph.{edges, lists_of}
 use Rattle.flow_graph.specs.declared.listing.Listing.{Listing}
+use Rattle.flow_graph.specs.declared.site.Site.{Site}
 use Rattle.flow_graph.specs.Numbers.{IsNumbering}
 
 -- the word is that of the instruction
@@ -44,6 +46,14 @@ pub record IsListing (image : Image) (facts : Facts) (start : ℕ) (addresses : 
 abbrev pub IsListed : Image → Facts → ℕ → Listing → Type 0
 IsListed image facts start l =
     IsListing image facts start l.addresses.items l.insns.items l.ways (lists_of l.calls.items)
+
+-- the lists of some sites: addresses, instructions, and the numbers of what each leads to in its function and of what it calls
+pub record IsListOf (sites : List Site) (l : Listing) : Type 0 where
+  pub addresses : l.addresses.items ≡ map (λ s. s.address) sites
+  pub small : All (λ a. a < 2 ^ 32) l.addresses.items
+  pub insns : AllZip (λ s insn. IsWordOf s.word insn) sites l.insns.items
+  pub ways : AreRows l.addresses.items (map (λ s. s.ways.items) sites) l.ways
+  pub calls : AreRows l.addresses.items (map (λ s. s.callees.items) sites) (lists_of l.calls.items)
 
 -- a function begins at the start, or is called
 pub data IsEntryNumber (calls : List (List ℕ)) (start : ℕ) : ℕ → Type 0 where

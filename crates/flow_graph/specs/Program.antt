@@ -8,11 +8,11 @@ use Rattle.wx_base.specs.Monitor as monitor
 use Rattle.flow_graph.specs.declared.program.Function.{Function}
 use Rattle.flow_graph.specs.declared.program.LoopInfo.{LoopInfo}
 use Rattle.flow_graph.specs.declared.program.Program.{Program}
-use Rattle.flow_graph.specs.Blocks.{AreBlocks}
+use Rattle.flow_block.specs.Blocks.{AreBlocks}
 
 -- a loop, as moves are judged by it
 abbrev pub bounded_loop : LoopInfo → monitor.BoundedLoop
-bounded_loop l = record { head = l.head; members = l.members; maxcount = l.maxcount }
+bounded_loop l = record { head = l.head; members = l.members; maxcount = l.maxcount; totalcount = l.totalcount }
 
 -- a function, as moves are judged by it
 abbrev pub judged_function : Function → monitor.Function

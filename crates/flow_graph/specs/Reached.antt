@@ -8,7 +8,7 @@ use Rattle.wx_base.specs.Functions.{code_at, ways_at, callees_at, IsReached}
 use Rattle.wx_base.specs.Image.{is_code_word}
 use Rattle.arm_code.specs.Encoding.{decoded}
 use Rattle.flow_graph.specs.declared.site.Site.{Site}
-use Rattle.flow_graph.specs.Sites.{behind, flow_at}
+use Rattle.flow_block.specs.Sites.{behind, flow_at}
 
 -- the elements of a list, ascending and each once
 pub record IsSetOf (elements : List ℕ) (sorted : List ℕ) : Type 0 where

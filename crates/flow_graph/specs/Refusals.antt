@@ -4,7 +4,7 @@ use Rattle.wx_base.specs.declared.facts.Facts.{Facts}
 use Rattle.wx_base.specs.declared.image.Image.{Image}
 use Rattle.wx_base.specs.declared.machine.Machine.{Machine}
 use Rattle.wx_base.specs.Facts.{targets_of}
-use Rattle.wx_base.specs.Functions.{code_at, ways_at, callees_at, IsReached, IsEntry, IsRecursive, bound_of}
+use Rattle.wx_base.specs.Functions.{code_at, ways_at, callees_at, IsReached, IsEntry, IsRecursive, fact_of}
 use Rattle.wx_base.specs.Image.{is_code_word}
 use Rattle.wx_base.specs.Paths.{IsHead, IsOnForwardCycle}
 use Rattle.arm_code.specs.Encoding.{decoded}
@@ -12,7 +12,7 @@ use Rattle.flow_graph.specs.declared.error.FlowError.{FlowError}
 use Rattle.flow_graph.specs.declared.error.FlowError.TheVariants.{NoMemory, Unsupported, LeavesCode, IndirectNoTargets, BadTarget, Recursion, Irreducible, LoopNoBound, TooManyBlocks}
 use Rattle.flow_graph.specs.declared.program.Program.{Program}
 use Rattle.flow_graph.specs.Program.{IsProgram, block_count}
-use Rattle.flow_graph.specs.Sites.{behind, flow_at, jumps_at}
+use Rattle.flow_block.specs.Sites.{behind, flow_at, jumps_at}
 
 -- a word that is reached and no instruction
 pub record IsForeign (image : Image) (facts : Facts) (start address word : ℕ) : Type 0 where
@@ -60,7 +60,7 @@ pub record IsUnbounded (image : Image) (facts : Facts) (start address : ℕ) : T
   pub entry : ℕ
   pub function : IsEntry image facts start entry
   pub head : IsHead (ways_at image facts) entry address
-  pub unbounded : bound_of facts address ≡ None
+  pub unbounded : fact_of facts address ≡ None
 
 -- the greatest number of blocks
 abbrev pub most_blocks : ℕ
@@ -126,3 +126,8 @@ pub record IsFirst (image : Image) (facts : Facts) (start : ℕ) (machine : Mach
 -- no cause of the first so many kinds stands
 pub record IsClean (image : Image) (facts : Facts) (start : ℕ) (machine : Machine) (kinds : ℕ) : Type 0 where
   pub none : (e : FlowError) → IsCause image facts start machine e → rank e ≤ kinds → ⊥
+
+-- the program that an image has with facts, from a start and on a machine: no cause stands against it
+pub record IsSoundProgram (image : Image) (facts : Facts) (start : ℕ) (machine : Machine) (program : Program) : Type 0 where
+  pub is : IsProgram image facts start machine program
+  pub sound : (cause : FlowError) → IsCause image facts start machine cause → ⊥

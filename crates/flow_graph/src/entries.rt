@@ -1,6 +1,7 @@
 //! Where functions begin, and calls that lead back to themselves.
 
-ghost use Rattle.std.specs.Prelude.{◌≡◌, ◌<◌, ◌⊎◌, ℕ, false, length, slice_index_or, Contains, Decides, IsTrue, IfOk, Some};
+ghost use Rattle.std.specs.Prelude.{◌≡◌, ◌<◌, ◌⊎◌, ℕ, false, length};
+ghost use Rattle.std.specs.Prelude.{slice_index_or, Contains, Decides, IsTrue, IfOk, Some};
 ghost use Rattle.graph_loops.specs.Graph.{lists_of, edges, IsGraph, AreVertices};
 ghost use Rattle.flow_graph.specs.Listing.{IsRecursiveNumber, IsLeast, AreEntries, AreMarkedCallees, AreLeads};
 
@@ -30,7 +31,8 @@ pub(crate) fn entries(
 fn mark_all(marks: &mut [bool], numbers: &[usize])
     requires { AreVertices (length marks.old) numbers.now }
     ensures long { length marks.new ≡ length marks.old }
-    ensures marked { (v : ℕ) → Decides (slice_index_or marks.new v false) (Contains numbers.now v ⊎ IsTrue (slice_index_or marks.old v false)) }
+    ensures marked { (v : ℕ) → Decides (slice_index_or marks.new v false)
+        (Contains numbers.now v ⊎ IsTrue (slice_index_or marks.old v false)) }
 {
     for number in numbers {
         marks[*number] = true;
@@ -53,8 +55,8 @@ fn leads(alloc: Global, ways: &Graph, calls: &[Vec<usize>]) -> Result<Vec<Vec<us
     Ok(rows)
 }
 
-/// The least number of a call that leads back to itself, by ways and calls. With f functions it takes f times as long as going
-/// over all instructions.
+/// The least number of a call that leads back to itself, by ways and calls. With f functions it takes f times as long
+/// as going over all instructions.
 pub(crate) fn recursive_call(
     alloc: Global,
     ways: &Graph,
@@ -80,7 +82,8 @@ pub(crate) fn recursive_call(
 /// The least of the marked instructions that call a function.
 fn first_call(calls: &[Vec<usize>], entry: usize, marks: &[bool]) -> Option<usize>
     requires { length marks.now ≡ length calls.now }
-    ensures { IsLeast (λ site. Contains (edges (lists_of calls.now) site) entry × IsTrue (slice_index_or marks.now site false)) result }
+    ensures { IsLeast (λ site. Contains (edges (lists_of calls.now) site) entry
+        × IsTrue (slice_index_or marks.now site false)) result }
 {
     for (site, callees) in calls.iter().enumerate() {
         if marks[site] && callees.contains(&entry) {

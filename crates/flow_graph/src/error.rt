@@ -5,8 +5,9 @@ use std::alloc::{AllocError, AllocFailed};
 use thiserror::Error;
 use wx_base::NoMemory;
 
-/// Why an image with these facts has no functions, blocks and loops that can be analysed. The variants stand in the order in which
-/// their causes are looked for; a refusal is the first whose cause stands, and of one kind that with the least address.
+/// Why an image with these facts has no functions, blocks and loops that can be analysed. The variants stand in the
+/// order in which their causes are looked for; a refusal is the first whose cause stands, and of one kind that with
+/// the least address.
 #[derive(Debug, PartialEq, Eq, Drop, Error)]
 pub enum FlowError {
     /// Memory ran out; nothing is said of the image.

@@ -1,40 +1,41 @@
 //! One function with its blocks and loops.
 
-ghost use Rattle.std.specs.Prelude.{◌≡◌, ◌<◌, All, length, slice_index, map, IfOk};
+ghost use Rattle.std.specs.Prelude.{◌≡◌, ◌<◌, All, length, slice_index, map, IfOk, IsSome};
 ghost use Rattle.wx_base.specs.Facts.{FactsAscend, LoopsAscend};
+ghost use Rattle.wx_base.specs.Functions.{fact_of};
 ghost use Rattle.wx_base.specs.Machine.{IsMachine};
-ghost use Rattle.flow_graph.specs.Code.{Subject};
+ghost use Rattle.flow_block.specs.Code.{Subject};
 ghost use Rattle.flow_graph.specs.Listing.{IsListed};
-ghost use Rattle.flow_graph.specs.Outlines.{IsOutline, IsFunction, AreFunctionsOf, HasBounds, IsLoopInfo, AreLoopInfos};
+ghost use Rattle.flow_graph.specs.Outlines.{IsOutline, IsFunction, AreFunctionsOf, HasBounds};
+ghost use Rattle.flow_graph.specs.Outlines.{HaveBounds, IsLoopInfo, AreLoopInfos};
 
-use crate::blocks::blocks;
+use crate::inputs::Inputs;
 use crate::listing::Listing;
-use crate::outline::{Outline, bound};
+use crate::outline::Outline;
 use crate::program::{Blocks, Function, LoopInfo, Loops};
+use flow_block::{Code, blocks_of, loop_fact};
 use graph_loops::{Loop, reach};
 use std::alloc::Global;
-use wx_base::{Addresses, Facts, Image, Machine, NoMemory};
+use wx_base::{Addresses, Facts, NoMemory};
 
 /// The functions of some outlines.
 pub(crate) fn functions(
     alloc: Global,
-    image: &Image,
-    facts: &Facts,
-    start: u32,
-    machine: &Machine,
+    inputs: &Inputs,
     listing: &Listing,
     outlines: &[Outline],
 ) -> Result<Vec<Function>, NoMemory>
-    requires facts { FactsAscend facts.now }
-    requires machine { IsMachine machine.now }
-    requires listing { IsListed image.now facts.now start listing.now }
+    requires facts { FactsAscend inputs.now.facts.now }
+    requires machine { IsMachine inputs.now.machine.now }
+    requires listing { IsListed inputs.now.image.now inputs.now.facts.now inputs.now.start listing.now }
     requires outlines { All (λ o. IsOutline listing.now.ways o × (o.entry < length listing.now.ways)) outlines.now }
-    requires bounded { All (HasBounds facts.now listing.now.addresses.items) outlines.now }
-    ensures { IfOk result (λ functions. AreFunctionsOf image.now facts.now machine.now listing.now.addresses.items outlines.now functions.items) }
+    requires bounded { All (HasBounds inputs.now.facts.now listing.now.addresses.items) outlines.now }
+    ensures { IfOk result (λ functions. AreFunctionsOf inputs.now.image.now inputs.now.facts.now inputs.now.machine.now
+        listing.now.addresses.items outlines.now functions.items) }
 {
     let mut functions = Vec::new(alloc);
     for outline in outlines {
-        functions.push(function(alloc, image, facts, start, machine, listing, outline)?)?;
+        functions.push(function(alloc, inputs, listing, outline)?)?;
     }
     Ok(functions)
 }
@@ -42,38 +43,43 @@ pub(crate) fn functions(
 /// The function of an outline.
 fn function(
     alloc: Global,
-    image: &Image,
-    facts: &Facts,
-    start: u32,
-    machine: &Machine,
+    inputs: &Inputs,
     listing: &Listing,
     outline: &Outline,
 ) -> Result<Function, NoMemory>
     ghost of: { Subject }
-    requires subject { of ≡ record { image = image.now; facts = facts.now; entry = slice_index listing.now.addresses.items outline.now.entry } }
-    requires facts { FactsAscend facts.now }
-    requires machine { IsMachine machine.now }
-    requires listing { IsListed image.now facts.now start listing.now }
+    requires subject { of ≡ record {
+      image = inputs.now.image.now;
+      facts = inputs.now.facts.now;
+      entry = slice_index listing.now.addresses.items outline.now.entry;
+    } }
+    requires facts { FactsAscend inputs.now.facts.now }
+    requires machine { IsMachine inputs.now.machine.now }
+    requires listing { IsListed inputs.now.image.now inputs.now.facts.now inputs.now.start listing.now }
     requires outline { IsOutline listing.now.ways outline.now }
     requires vertex { outline.now.entry < length listing.now.ways }
-    requires bounded { HasBounds facts.now listing.now.addresses.items outline.now }
-    ensures { IfOk result (λ f. IsFunction image.now facts.now machine.now (slice_index listing.now.addresses.items outline.now.entry) f) }
+    requires bounded { HasBounds inputs.now.facts.now listing.now.addresses.items outline.now }
+    ensures { IfOk result (IsFunction inputs.now.image.now inputs.now.facts.now inputs.now.machine.now
+        (slice_index listing.now.addresses.items outline.now.entry)) }
 {
     let entry = listing.addresses[outline.entry];
     let body = reach(alloc, &listing.ways, &[outline.entry], None)?;
-    let blocks = blocks(
+    let code = Code {
+        addresses: listing.addresses.as_slice(),
+        insns: listing.insns.as_slice(),
+    };
+    let blocks = blocks_of(
         alloc,
-        listing.addresses.as_slice(),
-        listing.insns.as_slice(),
+        &code,
         body.as_slice(),
-        facts,
-        machine,
+        inputs.facts,
+        inputs.machine,
         entry,
     )?;
     let loops = loop_infos(
         alloc,
-        facts,
-        listing.addresses.as_slice(),
+        inputs.facts,
+        code.addresses,
         outline.structure.loops.as_slice(),
     )?;
     Ok(Function {
@@ -83,7 +89,7 @@ fn function(
     })
 }
 
-/// Loops with their addresses and bounds.
+/// Loops with their addresses and the bounds of the facts.
 fn loop_infos(
     alloc: Global,
     facts: &Facts,
@@ -93,6 +99,7 @@ fn loop_infos(
     requires facts { LoopsAscend facts.now.loops }
     requires heads { All (λ l. l.head < length addresses.now) loops.now }
     requires members { All (λ l. All (λ a. a < length addresses.now) l.members) loops.now }
+    requires bounded { HaveBounds facts.now addresses.now loops.now }
     ensures { IfOk result (λ infos. AreLoopInfos facts.now addresses.now loops.now infos.items) }
 {
     let mut infos = Vec::new(alloc);
@@ -102,7 +109,7 @@ fn loop_infos(
     Ok(infos)
 }
 
-/// A loop with its addresses and bound.
+/// A loop with its addresses and the bounds of the fact on its head.
 fn loop_info(
     alloc: Global,
     facts: &Facts,
@@ -112,14 +119,17 @@ fn loop_info(
     requires facts { LoopsAscend facts.now.loops }
     requires head { found.now.head < length addresses.now }
     requires members { All (λ a. a < length addresses.now) found.now.members }
+    requires bounded { IsSome (fact_of facts.now (slice_index addresses.now found.now.head)) }
     ensures { IfOk result (IsLoopInfo facts.now addresses.now found.now) }
 {
     let head = addresses[found.head];
+    // Each head has a fact where functions are made.
+    let fact = loop_fact(facts, head).unwrap();
     Ok(LoopInfo {
         head,
         members: Addresses::new(at_places(alloc, addresses, found.members.as_slice())?),
-        // Each head has a bound where functions are made.
-        maxcount: bound(facts, head).unwrap_or(0),
+        maxcount: fact.maxcount,
+        totalcount: fact.totalcount,
     })
 }
 

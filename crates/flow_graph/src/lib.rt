@@ -1,33 +1,24 @@
-//! Functions, blocks and loops of an image, by the ways of its instructions and the facts on its flow.
+//! Functions, blocks and loops of an image, by the ways of its instructions and the facts on its flow. The types of
+//! blocks are those of `flow_block`.
 #![tactic(auto)]
 
-mod assembly;
-mod block;
-mod blocks;
-#[cfg(test)]
-mod build_tests;
-mod code;
+mod construction;
+mod early_refusals;
 mod entries;
 mod error;
-mod events;
 mod explore;
 mod function;
-mod growth;
+mod inputs;
+mod insn_ways;
 mod laws;
-mod leaders;
-mod leads;
 mod listing;
 mod outline;
-mod outside;
 mod program;
-#[cfg(test)]
-mod reach_tests;
 mod site;
-mod starts;
 
-pub use assembly::build;
-pub use block::{Block, Insns, Slot, SlotKind, Slots};
+pub use construction::build;
 pub use error::FlowError;
-pub use laws::rules_are_one;
-pub use leads::ways;
+pub use flow_block::{Block, Insns, Slot, SlotKind, Slots};
+pub use insn_ways::ways;
+pub use laws::{program_is_one, rules_are_one};
 pub use program::{Blocks, Function, Functions, LoopInfo, Loops, Program};

@@ -1,19 +1,18 @@
 //! The instructions that are reached, numbered in the order of their addresses.
 
 ghost use Rattle.std.specs.List.{AllZip};
-ghost use Rattle.std.specs.Prelude.{◌≡◌, ◌<◌, ◌^◌, length, map, slice_index, Contains, All, IfOk, None};
+ghost use Rattle.std.specs.Prelude.{◌≡◌, ◌<◌, ◌^◌, map, Contains, All, IfOk, None};
 ghost use Rattle.arm_code.specs.Encoding.{decoded};
 ghost use Rattle.wx_base.specs.Facts.{AreAscending};
 ghost use Rattle.graph_loops.specs.Graph.{lists_of};
-ghost use Rattle.flow_graph.specs.Listing.{ArePlaces, AreRows, IsListed, IsWordOf};
-ghost use Rattle.flow_graph.specs.Reached.{AreSites, IsClosed};
+ghost use Rattle.flow_graph.specs.Listing.{ArePlaces, AreRows, IsListOf, IsWordOf};
 
-use crate::code::find;
 use crate::site::Site;
 use arm_code::{Insn, decode};
+use flow_block::place;
 use graph_loops::Graph;
 use std::alloc::Global;
-use wx_base::{Facts, Image, NoMemory};
+use wx_base::NoMemory;
 
 /// The instructions that are reached, by ascending address. Their numbers are the places in these lists.
 #[derive(Drop)]
@@ -26,17 +25,13 @@ pub(crate) struct Listing {
     pub calls: Vec<Vec<usize>>,
 }
 
-/// The listing of sites out of which nothing leads. With n sites it takes n log n time.
-pub(crate) fn list_sites(
-    alloc: Global,
-    image: &Image,
-    facts: &Facts,
-    start: u32,
-    sites: &[Site],
-) -> Result<Listing, NoMemory>
-    requires sites { AreSites image.now facts.now start sites.now }
-    requires closed { IsClosed image.now facts.now start sites.now }
-    ensures { IfOk result (λ l. IsListed image.now facts.now start l) }
+/// The listing of sites that lead to one another alone. With n sites it takes n log n time.
+pub(crate) fn list_sites(alloc: Global, sites: &[Site]) -> Result<Listing, NoMemory>
+    requires ascending { AreAscending (map (λ s. s.address) sites.now) }
+    requires insns { All (λ s. decoded s.word ≡ None → ⊥) sites.now }
+    requires ways { All (λ s. All (λ a. Contains (map (λ t. t.address) sites.now) a) s.ways.items) sites.now }
+    requires callees { All (λ s. All (λ a. Contains (map (λ t. t.address) sites.now) a) s.callees.items) sites.now }
+    ensures { IfOk result (IsListOf sites.now) }
 {
     let addresses = addresses(alloc, sites)?;
     let insns = insns(alloc, sites)?;
@@ -103,7 +98,7 @@ fn call_rows(alloc: Global, addresses: &[u32], sites: &[Site]) -> Result<Vec<Vec
 }
 
 /// The numbers of some addresses, which are in the list.
-pub(crate) fn places(alloc: Global, addresses: &[u32], list: &[u32]) -> Result<Vec<usize>, NoMemory>
+fn places(alloc: Global, addresses: &[u32], list: &[u32]) -> Result<Vec<usize>, NoMemory>
     requires ascending { AreAscending addresses.now }
     requires listed { All (λ a. Contains addresses.now a) list.now }
     ensures { IfOk result (λ places. ArePlaces addresses.now list.now places.items) }
@@ -113,15 +108,4 @@ pub(crate) fn places(alloc: Global, addresses: &[u32], list: &[u32]) -> Result<V
         places.push(place(addresses, *address))?;
     }
     Ok(places)
-}
-
-/// The number of an address that is in the list.
-pub(crate) fn place(addresses: &[u32], address: u32) -> usize
-    requires ascending { AreAscending addresses.now }
-    requires listed { Contains addresses.now address }
-    ensures within { result < length addresses.now }
-    ensures stands { slice_index addresses.now result ≡ address }
-{
-    // The address is there, so it is found.
-    find(addresses, address).unwrap_or(0)
 }

@@ -2,11 +2,12 @@
 
 ghost use Rattle.std.specs.Prelude.{◌≡◌, ◌<◌, All, Any, Some, None, length, slice_index, IfOk};
 ghost use Rattle.wx_base.specs.Facts.{LoopsAscend};
-ghost use Rattle.wx_base.specs.Functions.{bound_of};
+ghost use Rattle.wx_base.specs.Functions.{fact_of};
 ghost use Rattle.flow_graph.specs.Listing.{IsLeast};
 ghost use Rattle.flow_graph.specs.Outlines.{AreOutlines, IsUnboundedNumber};
 
 use crate::entries::lesser;
+use flow_block::loop_fact;
 use graph_loops::{Graph, Loop, Structure, structure_of};
 use std::alloc::Global;
 use wx_base::{Facts, NoMemory};
@@ -48,18 +49,6 @@ pub(crate) fn least_on_cycle(outlines: &[Outline]) -> Option<usize>
     least
 }
 
-/// How often, by the facts, the back edges into a head may be taken in one stay, if a fact names it.
-pub(crate) fn bound(facts: &Facts, head: u32) -> Option<u32>
-    requires { LoopsAscend facts.now.loops }
-    ensures { result ≡ bound_of facts.now head }
-{
-    let loops = facts.loops.as_slice();
-    match loops.binary_search_by_key(&head, |fact| fact.address) {
-        Ok(at) => Some(loops[at].maxcount),
-        Err(_) => None,
-    }
-}
-
 /// The least number of a head without a bound in some function.
 pub(crate) fn least_unbounded(
     facts: &Facts,
@@ -84,11 +73,12 @@ pub(crate) fn least_unbounded(
 fn first_unbounded(facts: &Facts, addresses: &[u32], loops: &[Loop]) -> Option<usize>
     requires facts { LoopsAscend facts.now.loops }
     requires heads { All (λ l. l.head < length addresses.now) loops.now }
-    ensures { IsLeast (λ v. Any (λ l. l.head ≡ v) loops.now × (bound_of facts.now (slice_index addresses.now v) ≡ None)) result }
+    ensures { IsLeast (λ v. Any (λ l. l.head ≡ v) loops.now
+        × (fact_of facts.now (slice_index addresses.now v) ≡ None)) result }
 {
     let mut least = None;
     for found in loops {
-        if bound(facts, addresses[found.head]).is_none() {
+        if loop_fact(facts, addresses[found.head]).is_none() {
             least = lesser(least, Some(found.head));
         }
     }

@@ -1,6 +1,6 @@
-use crate::block::Block;
-use std::marker::Model;
+use flow_block::Block;
 use wx_base::Addresses;
+use wx_text::List;
 
 /// A loop of a function.
 #[derive(Debug, Drop)]
@@ -9,91 +9,17 @@ pub struct LoopInfo {
     pub head: u32,
     /// The addresses of its instructions, the head among them, ascending.
     pub members: Addresses,
-    /// How often its back edges are taken at most in one stay, by the fact on the head.
+    /// How often its back edges are taken at most each time that it is entered, by the fact on the head.
     pub maxcount: u32,
+    /// How often back edges of loops with this head are taken at most in a whole run, where that fact says so.
+    pub totalcount: Option<u32>,
 }
 
-/// The blocks of a function; contracts see the list.
-#[derive(Debug, Drop)]
-pub struct Blocks {
-    list: Vec<Block>,
-}
+/// The blocks of a function: contracts see the list.
+pub type Blocks = List<Block>;
 
-impl Model for Blocks {
-    ghost use Rattle.std.specs.Prelude.{List};
-    ghost use Rattle.flow_graph.specs.declared.block.Block.{Block};
-
-    ghost Value = { List Block };
-
-    ghost view = { λ l. l.list.items };
-}
-
-impl Blocks {
-    ghost use Rattle.std.specs.Prelude.{◌≡◌};
-
-    /// This list.
-    pub fn new(list: Vec<Block>) -> Blocks
-        ensures { result ≡ list.items }
-    {
-        Blocks { list }
-    }
-
-    /// The list, as the `Vec` that holds it.
-    pub fn into_vec(self) -> Vec<Block>
-        ensures { result.items ≡ self }
-    {
-        let Blocks { list } = self;
-        list
-    }
-
-    /// The elements.
-    pub fn as_slice(&self) -> &[Block]
-        ensures { result.now ≡ self.now }
-    {
-        &self.list
-    }
-}
-
-/// The loops of a function; contracts see the list.
-#[derive(Debug, Drop)]
-pub struct Loops {
-    list: Vec<LoopInfo>,
-}
-
-impl Model for Loops {
-    ghost use Rattle.std.specs.Prelude.{List};
-    ghost use Rattle.flow_graph.specs.declared.program.LoopInfo.{LoopInfo};
-
-    ghost Value = { List LoopInfo };
-
-    ghost view = { λ l. l.list.items };
-}
-
-impl Loops {
-    ghost use Rattle.std.specs.Prelude.{◌≡◌};
-
-    /// This list.
-    pub fn new(list: Vec<LoopInfo>) -> Loops
-        ensures { result ≡ list.items }
-    {
-        Loops { list }
-    }
-
-    /// The list, as the `Vec` that holds it.
-    pub fn into_vec(self) -> Vec<LoopInfo>
-        ensures { result.items ≡ self }
-    {
-        let Loops { list } = self;
-        list
-    }
-
-    /// The elements.
-    pub fn as_slice(&self) -> &[LoopInfo]
-        ensures { result.now ≡ self.now }
-    {
-        &self.list
-    }
-}
+/// The loops of a function: contracts see the list.
+pub type Loops = List<LoopInfo>;
 
 /// A function: all that the ways of its instructions reach from its entry. Two functions may share addresses.
 #[derive(Debug, Drop)]
@@ -106,46 +32,8 @@ pub struct Function {
     pub loops: Loops,
 }
 
-/// Functions; contracts see the list.
-#[derive(Debug, Drop)]
-pub struct Functions {
-    list: Vec<Function>,
-}
-
-impl Model for Functions {
-    ghost use Rattle.std.specs.Prelude.{List};
-    ghost use Rattle.flow_graph.specs.declared.program.Function.{Function};
-
-    ghost Value = { List Function };
-
-    ghost view = { λ l. l.list.items };
-}
-
-impl Functions {
-    ghost use Rattle.std.specs.Prelude.{◌≡◌};
-
-    /// This list.
-    pub fn new(list: Vec<Function>) -> Functions
-        ensures { result ≡ list.items }
-    {
-        Functions { list }
-    }
-
-    /// The list, as the `Vec` that holds it.
-    pub fn into_vec(self) -> Vec<Function>
-        ensures { result.items ≡ self }
-    {
-        let Functions { list } = self;
-        list
-    }
-
-    /// The elements.
-    pub fn as_slice(&self) -> &[Function]
-        ensures { result.now ≡ self.now }
-    {
-        &self.list
-    }
-}
+/// Functions: contracts see the list.
+pub type Functions = List<Function>;
 
 /// What a run of an image from a start can come to.
 #[derive(Debug, Drop)]

@@ -1,15 +1,15 @@
 //! What stands at an address that is reached.
 
-ghost use Rattle.std.specs.Prelude.{◌≡◌, true, IfOk, Some, [], if◌then◌else◌};
-ghost use Rattle.wx_base.specs.Facts.{FactsAscend, targets_of};
+ghost use Rattle.std.specs.Prelude.{◌≡◌, true, IfOk, Some};
+ghost use Rattle.wx_base.specs.Facts.{FactsAscend};
 ghost use Rattle.wx_base.specs.Flow.{flow_of, no_flow};
-ghost use Rattle.wx_base.specs.Functions.{callees_by};
 ghost use Rattle.wx_base.specs.Image.{is_code_word, word_of};
 ghost use Rattle.arm_code.specs.Encoding.{decoded};
 ghost use Rattle.flow_graph.specs.Reached.{IsSite};
 
-use crate::leads::{targets, ways_by};
+use crate::insn_ways::ways_by;
 use arm_code::{FlowKind, Insn, decode, flow};
+use flow_block::callees;
 use smallvec::SmallVec;
 use std::alloc::Global;
 use wx_base::{Facts, Image, NoMemory};
@@ -28,7 +28,7 @@ pub(crate) struct Site {
     /// Where it leads in its function, ascending.
     pub ways: SmallVec<u32, 4>,
     /// The functions that it may call, ascending.
-    pub callees: SmallVec<u32, 4>,
+    pub callees: Vec<u32>,
 }
 
 /// The word of code at an address.
@@ -66,33 +66,6 @@ fn no_flow() -> FlowKind
     }
 }
 
-/// The targets that the facts list for an instruction, if it is a call by register.
-fn listed(facts: &Facts, address: u32, call_any: bool) -> &[u32]
-    requires { FactsAscend facts.now }
-    ensures { result.now ≡ (if call_any then targets_of facts.now.calls address else []) }
-{
-    if call_any {
-        targets(&facts.calls, address)
-    } else {
-        &[]
-    }
-}
-
-/// The functions that an instruction may call, ascending.
-fn callees_by(
-    alloc: Global,
-    flow: FlowKind,
-    address: u32,
-    facts: &Facts,
-) -> Result<SmallVec<u32, 4>, NoMemory>
-    requires { FactsAscend facts.now }
-    ensures { IfOk result (λ c. c.items ≡ callees_by facts.now address flow) }
-{
-    let mut callees = SmallVec::from_slice(alloc, flow.call.as_slice())?;
-    callees.extend_from_slice(listed(facts, address, flow.call_any))?;
-    Ok(callees)
-}
-
 /// Looks at an address where a word of code stands.
 pub(crate) fn look(
     alloc: Global,
@@ -108,7 +81,7 @@ pub(crate) fn look(
     let word = code_word(image, address);
     let (insn, flow) = read(word, address);
     let ways = ways_by(alloc, flow, address, facts)?;
-    let callees = callees_by(alloc, flow, address, facts)?;
+    let callees = callees(alloc, flow, address, facts)?;
     Ok(Site {
         address,
         word,

@@ -7,3 +7,6 @@ mod CycleLemmas
 mod MemberLemmas
 mod HeadLemmas
 mod OrderLemmas
+mod EntranceLemmas
+mod WalkedLemmas
+mod ToldLemmas

@@ -13,7 +13,8 @@ use wx_base::NoMemory;
 /// Linear in the vertices and edges where there is no cycle; else a walk for each vertex.
 pub(crate) fn least_cyclic(alloc: Global, lists: &[Vec<usize>]) -> Result<Option<usize>, NoMemory>
     requires { IsGraph (lists_of lists.now) }
-    ensures { IfOk result (λ least. MatchOption least (IsAcyclic (lists_of lists.now)) (λ v. IsLeastCyclic (lists_of lists.now) v)) }
+    ensures { IfOk result (λ least.
+        MatchOption least (IsAcyclic (lists_of lists.now)) (λ v. IsLeastCyclic (lists_of lists.now) v)) }
 {
     // However the numbers were found: where they rise along each edge there is no cycle.
     let numbers = in_order(alloc, lists)?;
@@ -26,7 +27,8 @@ pub(crate) fn least_cyclic(alloc: Global, lists: &[Vec<usize>]) -> Result<Option
 /// The first vertex on a cycle.
 fn first_cyclic(alloc: Global, lists: &[Vec<usize>]) -> Result<Option<usize>, NoMemory>
     requires { IsGraph (lists_of lists.now) }
-    ensures { IfOk result (λ least. MatchOption least (IsAcyclic (lists_of lists.now)) (λ v. IsLeastCyclic (lists_of lists.now) v)) }
+    ensures { IfOk result (λ least.
+        MatchOption least (IsAcyclic (lists_of lists.now)) (λ v. IsLeastCyclic (lists_of lists.now) v)) }
 {
     for vertex in 0..lists.len() {
         if is_cyclic(alloc, lists, vertex)? {

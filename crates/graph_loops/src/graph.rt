@@ -25,7 +25,8 @@ impl Model for Graph {
 
     ghost view = { λ g. lists_of g.leads.items };
 
-    ghost invariant = { λ g. IsGraph (lists_of g.leads.items) × AreSources (lists_of g.leads.items) (lists_of g.sources.items) };
+    ghost invariant = { λ g. IsGraph (lists_of g.leads.items)
+        × AreSources (lists_of g.leads.items) (lists_of g.sources.items) };
 }
 
 impl Graph {

@@ -10,12 +10,13 @@ mod members;
 mod order;
 mod sources;
 mod structure;
-#[cfg(test)]
-mod tests;
 mod walk;
 mod ways;
 
 pub use graph::{Graph, reach};
-pub use laws::heads_cut_cycles;
+pub use laws::{
+    closed_walks_lie_in_loops, heads_are_entries, heads_cut_cycles, loops_are_nested,
+    single_edges_keep_membership,
+};
 pub use loops::{Loop, Loops, Vertices};
 pub use structure::{Structure, structure_of};

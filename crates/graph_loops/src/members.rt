@@ -31,7 +31,9 @@ pub(crate) fn loops_of(alloc: Global, graph: &Graph, ways: &Ways) -> Result<Loop
 fn loop_at(alloc: Global, graph: &Graph, ways: &Ways, head: usize) -> Result<Option<Loop>, NoMemory>
     requires ways { AreWays graph.now ways.now }
     requires vertex { head < length graph.now }
-    ensures { IfOk result (λ found. MatchOption found (IsHead (edges graph.now) ways.now.entry head → ⊥) (λ l. (l.head ≡ head) × IsLoop graph.now ways.now.entry l)) }
+    ensures { IfOk result (λ found. MatchOption found
+        (IsHead (edges graph.now) ways.now.entry head → ⊥)
+        (λ l. (l.head ≡ head) × IsLoop graph.now ways.now.entry l)) }
 {
     if list_at(ways.back.as_slice(), head).is_empty() {
         return Ok(None);
@@ -45,7 +47,8 @@ fn members_of(alloc: Global, graph: &Graph, ways: &Ways, head: usize) -> Result<
     requires ways { AreWays graph.now ways.now }
     requires vertex { head < length graph.now }
     ensures ascending { IfOk result (λ members. AreAscending members) }
-    ensures exact { IfOk result (λ members. (a : ℕ) → Contains members a ↔ IsMember (edges graph.now) ways.now.entry head a) }
+    ensures exact { IfOk result (λ members.
+        (a : ℕ) → Contains members a ↔ IsMember (edges graph.now) ways.now.entry head a) }
 {
     let back = list_at(ways.back.as_slice(), head);
     let marks = walk(alloc, graph.sources(), back, Some(head))?;

@@ -5,8 +5,8 @@ use crate::lists::{list_at, vertex_at};
 use std::alloc::Global;
 use wx_base::NoMemory;
 
-/// Numbers for the vertices, which rise along each edge if the graph has no cycle: each vertex is numbered once all that lead
-/// to it are. The others keep the greatest number.
+/// Numbers for the vertices, which rise along each edge if the graph has no cycle: each vertex is numbered once all
+/// that lead to it are. The others keep the greatest number.
 ///
 /// Linear in the vertices and edges.
 pub(crate) fn in_order(alloc: Global, lists: &[Vec<usize>]) -> Result<Vec<usize>, NoMemory>

@@ -45,7 +45,8 @@ fn add_source(sources: &mut [Vec<usize>], u: usize, targets: &[usize]) -> Result
 /// Puts a number behind those of the list at a place.
 fn push_at(lists: &mut [Vec<usize>], v: usize, u: usize) -> Result<(), NoMemory>
     requires { v < length lists.old }
-    ensures { OnOk result (lists_of lists.new ≡ slice_set (lists_of lists.old) v (edges (lists_of lists.old) v ++ u ∷ [])) }
+    ensures { OnOk result (lists_of lists.new
+        ≡ slice_set (lists_of lists.old) v (edges (lists_of lists.old) v ++ u ∷ [])) }
 {
     lists[v].push(u)?;
     Ok(())

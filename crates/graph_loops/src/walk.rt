@@ -1,4 +1,5 @@
-ghost use Rattle.std.specs.Prelude.{◌≡◌, ◌<◌, ◌≤◌, List, [], ◌∷◌, length, option_to_list, Contains, Decides, IfOk, OnOk};
+ghost use Rattle.std.specs.Prelude.{◌≡◌, ◌<◌, ◌≤◌, List, [], ◌∷◌, length, option_to_list};
+ghost use Rattle.std.specs.Prelude.{Contains, Decides, IfOk, OnOk};
 ghost use Rattle.graph_loops.specs.Graph.{lists_of, AreReached, AreVertices, IsGraph};
 ghost use Rattle.graph_loops.specs.Walk.{AreMarked, CameTo};
 

@@ -29,7 +29,8 @@ struct Sources {
 impl Ways {
     /// The edges of a graph from an entry.
     ///
-    /// A walk for each vertex that may be a head: the entry, if an edge leads to it, and where edges come from two places.
+    /// A walk for each vertex that may be a head: the entry, if an edge leads to it, and where edges come from two
+    /// places.
     pub(crate) fn of_graph(alloc: Global, graph: &Graph, entry: usize) -> Result<Ways, NoMemory>
         requires { entry < length graph.now }
         ensures entry { IfOk result (λ ways. ways.entry ≡ entry) }
@@ -80,8 +81,8 @@ fn sources_into(
     })
 }
 
-/// Whether a vertex may be a head. A path first comes to a head by a forward edge, so a back edge never comes alone, but into
-/// the entry.
+/// Whether a vertex may be a head. A path first comes to a head by a forward edge, so a back edge never comes alone,
+/// but into the entry.
 fn may_be_head(entry: usize, v: usize, into: &[usize]) -> bool
     ensures { MatchBool result ((v ≡ entry) ⊎ (AreSame into.now → ⊥)) ((v ≡ entry → ⊥) × AreSame into.now) }
 {

@@ -100,7 +100,8 @@ fn note_keys(
     document: &Value,
     keys: &[Key],
 ) -> Result<(), NoMemory>
-    ensures { OnOk result (faults.new.items ≡ faults.old.items ++ gathered (λ key. row_faults (view document.now) (row_of key)) keys.now) }
+    ensures { OnOk result (faults.new.items ≡ faults.old.items ++ gathered
+        (λ key. row_faults (view document.now) (row_of key)) keys.now) }
 {
     for key in keys {
         let fault = fault_in(key, holder(document, key.table));
@@ -117,7 +118,8 @@ fn note_keys(
 
 /// Appends the faults of the regions and of the keys inside them.
 fn note_regions(alloc: Global, faults: &mut Vec<Faulty>, regions: &[Value]) -> Result<(), NoMemory>
-    ensures { OnOk result (faults.new.items ≡ faults.old.items ++ gathered_items element_faults 0 (items_view regions.now)) }
+    ensures { OnOk result (faults.new.items ≡ faults.old.items
+        ++ gathered_items element_faults 0 (items_view regions.now)) }
 {
     for (index, region) in regions.iter().enumerate() {
         note_region(alloc, faults, index, region)?;
@@ -155,7 +157,8 @@ fn note_inner(
     region: &Value,
     keys: &[Key],
 ) -> Result<(), NoMemory>
-    ensures { OnOk result (faults.new.items ≡ faults.old.items ++ gathered (λ key. listed (dotted prefix.now key.name.now) (fault_in (row_of key) (Some (view region.now)))) keys.now) }
+    ensures { OnOk result (faults.new.items ≡ faults.old.items ++ gathered
+        (λ key. listed (dotted prefix.now key.name.now) (fault_in (row_of key) (Some (view region.now)))) keys.now) }
 {
     for key in keys {
         note(

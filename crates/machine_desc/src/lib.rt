@@ -12,8 +12,6 @@ mod machine;
 mod places;
 mod read;
 mod regions;
-#[cfg(test)]
-mod tests;
 mod unknown;
 
 pub use error::MachineError;

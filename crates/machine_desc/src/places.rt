@@ -60,6 +60,6 @@ pub(crate) fn region_key(alloc: Global, index: usize) -> Result<Text, NoMemory>
     ensures { IfOk result (λ key. key ≡ region_key index) }
 {
     let mut number = Vec::new(alloc);
-    push_number(alloc, &mut number, index as i128)?;
+    push_number(&mut number, index as i128)?;
     dotted(alloc, b"region", number.as_slice())
 }

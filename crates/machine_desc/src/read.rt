@@ -22,8 +22,8 @@ use wx_base::Machine;
 
 /// Reads the description of a machine, a TOML document, into the machine.
 ///
-/// Bytes that describe none are refused with the first [`MachineError`] whose cause stands, in the order of the variants
-/// from `Toml` on. `NoMemory` may come in place of any answer.
+/// Bytes that describe none are refused with the first [`MachineError`] whose cause stands, in the order of the
+/// variants from `Toml` on. `NoMemory` may come in place of any answer.
 ///
 /// Linear in the bytes, up to the look-ups in tables. Regions, of which at most 64 come so far, are compared each with
 /// each later one.
@@ -36,8 +36,10 @@ pub fn read_machine(alloc: Global, bytes: &[u8]) -> Result<Machine, MachineError
     ensures refused { IfErr result (IsRefusal bytes.now) }
 
     // Unless memory runs out, a description is read, and bytes with a fault are refused so.
-    ensures read { (machine : Machine) → IsDescription bytes.now machine → MatchResult result (λ m. m ≡ machine) (λ e. e ≡ refusal.NoMemory) }
-    ensures exact { (first : MachineError) → IsFirstCause bytes.now first → IsErrAnd result (λ e. (e ≡ refusal.NoMemory) ⊎ (e ≡ first)) }
+    ensures read { (machine : Machine) → IsDescription bytes.now machine → MatchResult result (λ m. m ≡ machine)
+        (λ e. e ≡ refusal.NoMemory) }
+    ensures exact { (first : MachineError) → IsFirstCause bytes.now first → IsErrAnd result
+        (λ e. (e ≡ refusal.NoMemory) ⊎ (e ≡ first)) }
 {
     read_checked(alloc, bytes)
 }

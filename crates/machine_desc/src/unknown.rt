@@ -52,7 +52,8 @@ fn note_tables(
     document: &Value,
     keys: &[Key],
 ) -> Result<(), NoMemory>
-    ensures { OnOk result (unknown.new.items ≡ unknown.old.items ++ gathered (λ key. inner_unknown (view document.now) key.name.now key.wanted) keys.now) }
+    ensures { OnOk result (unknown.new.items ≡ unknown.old.items ++ gathered
+        (λ key. inner_unknown (view document.now) key.name.now key.wanted) keys.now) }
 {
     for key in keys {
         note_table(alloc, unknown, document, key)?;
@@ -67,7 +68,8 @@ fn note_table(
     document: &Value,
     key: &Key,
 ) -> Result<(), NoMemory>
-    ensures { OnOk result (unknown.new.items ≡ unknown.old.items ++ inner_unknown (view document.now) key.now.name.now key.now.wanted) }
+    ensures { OnOk result (unknown.new.items ≡ unknown.old.items
+        ++ inner_unknown (view document.now) key.now.name.now key.now.wanted) }
 {
     if let Wanted::Table = key.wanted {
         if let Some(inner) = document.get(key.name) {
@@ -79,7 +81,8 @@ fn note_table(
 
 /// Appends the unknown keys of the regions.
 fn note_regions(alloc: Global, unknown: &mut Vec<Text>, regions: &[Value]) -> Result<(), NoMemory>
-    ensures { OnOk result (unknown.new.items ≡ unknown.old.items ++ gathered_items element_unknown 0 (items_view regions.now)) }
+    ensures { OnOk result (unknown.new.items ≡ unknown.old.items
+        ++ gathered_items element_unknown 0 (items_view regions.now)) }
 {
     for (index, region) in regions.iter().enumerate() {
         note_region(alloc, unknown, index, region)?;
@@ -118,7 +121,8 @@ fn note_value(
     keys: &[Key],
     value: &Value,
 ) -> Result<(), NoMemory>
-    ensures { OnOk result (unknown.new.items ≡ unknown.old.items ++ unknown_in prefix.now name.now (map row_of keys.now) (view value.now)) }
+    ensures { OnOk result (unknown.new.items ≡ unknown.old.items
+        ++ unknown_in prefix.now name.now (map row_of keys.now) (view value.now)) }
 {
     if let Value::Table(members) = value {
         note_members(alloc, unknown, prefix, name, keys, members)?;
@@ -135,7 +139,8 @@ fn note_members(
     keys: &[Key],
     members: &Table,
 ) -> Result<(), NoMemory>
-    ensures { OnOk result (unknown.new.items ≡ unknown.old.items ++ unknown_in prefix.now name.now (map row_of keys.now) (table (table_view members.now))) }
+    ensures { OnOk result (unknown.new.items ≡ unknown.old.items
+        ++ unknown_in prefix.now name.now (map row_of keys.now) (table (table_view members.now))) }
 {
     for (key, _) in members.iter() {
         if !is_listed(keys, name, key.as_str()) {

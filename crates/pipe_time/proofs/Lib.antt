@@ -7,3 +7,4 @@ pub mod Related
 pub mod Delay
 pub mod Shift
 pub mod Floors
+pub mod GoingOn

@@ -1,9 +1,9 @@
 -- What a vector holds of the past is all that later times depend on. This project's own.
-use Rattle.std.specs.Prelude.{◌≡◌, ℕ, List, [], ◌∷◌, map, reverse}
+use Rattle.std.specs.Prelude.{◌≡◌, ℕ, ◌≤◌, List, [], ◌∷◌, ◌++◌, map, reverse}
 use Rattle.wx_base.specs.declared.machine.Machine.{Machine}
 use Rattle.wx_base.specs.declared.times.Times.{Times}
 use Rattle.wx_base.specs.Machine.{IsMachine}
-use Rattle.wx_base.specs.Recurrence.{Entry, Done, next, window, past_of}
+use Rattle.wx_base.specs.Recurrence.{Entry, Done, next, window, past_of, completion}
 use Rattle.wx_base.specs.Vector.{zero_slots}
 
 -- the window on a past gives the next instruction the times that the past gives it
@@ -47,3 +47,30 @@ abbrev pub SteppingIsTheRecurrence : Type 0
 SteppingIsTheRecurrence =
     (m : Machine) (es : List Entry) → IsMachine m →
     stepped m zero_slots es ≡ times_in_order (past_of m [] (reverse es))
+
+-- one more instruction is complete no earlier than those before it
+abbrev pub CompletionNeverFalls : Type 0
+CompletionNeverFalls =
+    (m : Machine) (start : List ℕ) (past : List Done) (e : Entry) →
+    completion start past ≤ completion start (record { entry = e; times = next m start past e } ∷ past)
+
+-- Going on through a list, the last instruction first, from the window on what was executed before gives each instruction the
+-- times that going on behind those gives it.
+abbrev pub WindowsGoOn : Type 0
+WindowsGoOn =
+    (m : Machine) (start : List ℕ) (more es : List Entry) → IsMachine m →
+    past_of m start (more ++ es) ≡ past_of m (window m start (past_of m start es)) more ++ past_of m start es
+
+-- it leaves the same window behind
+abbrev pub WindowsLeadOn : Type 0
+WindowsLeadOn =
+    (m : Machine) (start : List ℕ) (more es : List Entry) → IsMachine m →
+    let between = window m start (past_of m start es) in
+    window m between (past_of m between more) ≡ window m start (past_of m start (more ++ es))
+
+-- and the last instruction is complete at the same time
+abbrev pub CompletionGoesOn : Type 0
+CompletionGoesOn =
+    (m : Machine) (start : List ℕ) (more es : List Entry) → IsMachine m →
+    let between = window m start (past_of m start es) in
+    completion between (past_of m between more) ≡ completion start (past_of m start (more ++ es))

@@ -1,7 +1,11 @@
 //! Laws of the recurrence. Each function does nothing: its contract is the law, for every machine, start and list.
 
-ghost use Rattle.pipe_time.specs.Windows.{WindowGivesTimes, WindowGivesWindow, ZeroIsNothing, NothingIsZero, ZeroStays, SteppingIsTheRecurrence};
-ghost use Rattle.pipe_time.specs.Order.{WorseIsNoFaster, WorseCompletesNoEarlier, WorseStaysCovering, DelayIsPassedOn, DelayOfCompletion, DelayOfSlots, MissingIsTheLongest, ShiftMovesTimes, ShiftMovesCompletion};
+ghost use Rattle.pipe_time.specs.Windows.{WindowGivesTimes, WindowGivesWindow, ZeroIsNothing, NothingIsZero, ZeroStays};
+ghost use Rattle.pipe_time.specs.Windows.{SteppingIsTheRecurrence, CompletionNeverFalls};
+ghost use Rattle.pipe_time.specs.Windows.{WindowsGoOn, WindowsLeadOn, CompletionGoesOn};
+ghost use Rattle.pipe_time.specs.Order.{WorseIsNoFaster, WorseCompletesNoEarlier, WorseStaysCovering};
+ghost use Rattle.pipe_time.specs.Order.{DelayIsPassedOn, DelayOfCompletion, DelayOfSlots, MissingIsTheLongest};
+ghost use Rattle.pipe_time.specs.Order.{ShiftMovesTimes, ShiftMovesCompletion};
 ghost use Rattle.pipe_time.specs.Floor.{RaisingChangesNothing};
 ghost use Rattle.pipe_time.specs.Growth.{TimesGrowLittle, SlotsGrowLittle};
 
@@ -14,6 +18,19 @@ pub fn windows_follow_the_past()
     ensures nothing { NothingIsZero }
     ensures stays { ZeroStays }
     ensures stepping { SteppingIsTheRecurrence }
+{}
+
+/// Going on through a list of instructions from the window on a past gives what going on behind that past gives: the
+/// times, the window behind them and the last completion.
+pub fn windows_go_on()
+    ensures times { WindowsGoOn }
+    ensures slots { WindowsLeadOn }
+    ensures completion { CompletionGoesOn }
+{}
+
+/// One more instruction is complete no earlier than those before it.
+pub fn completion_never_falls()
+    ensures { CompletionNeverFalls }
 {}
 
 /// One instruction raises the greatest slot by at most 4,016 cycles.

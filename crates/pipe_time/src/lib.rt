@@ -8,12 +8,10 @@ mod units;
 mod vector;
 
 pub use laws::{
-    a_shift_moves_all_times, delay_is_passed_on, every_fetch_missing_is_the_longest, growth,
-    raising_to_the_next_fetch_changes_nothing, windows_follow_the_past, worse_is_no_faster,
+    a_shift_moves_all_times, completion_never_falls, delay_is_passed_on,
+    every_fetch_missing_is_the_longest, growth, raising_to_the_next_fetch_changes_nothing,
+    windows_follow_the_past, windows_go_on, worse_is_no_faster,
 };
 pub use recurrence::advance;
 pub use vector::{Entry, Vector};
 pub use wx_base::Times;
-
-#[cfg(test)]
-mod tests;

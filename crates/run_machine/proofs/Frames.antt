@@ -1,15 +1,16 @@
 -- What a move inside a function makes of its activation.
-use Rattle.std.proofs.Common.{◌≡◌, ℕ, zero, suc, ◌+◌, ◌<◌, ◌≤◌, Bool, true, false, cond, eqb, ltb, not, List, [], ◌∷◌, length, map, get_or, set, replicate, Option, Some, None, option_map, Ok, Err, AllPairs, sym, ap, ◌∙◌, subst, refl, arith, ⊎_elim}
+use Rattle.std.proofs.Common.{◌≡◌, ℕ, zero, suc, ◌+◌, ◌<◌, ◌≤◌, Bool, true, false, cond, eqb, ltb, ◌&&◌, List, [], ◌∷◌, length, map, get_or, set, replicate, Option, Some, None, option_map, Ok, Err, AllPairs, sym, ap, ◌∙◌, subst, refl, arith, ⊎_elim}
 use Rattle.std.specs.List.{find, slice_get}
 use Rattle.std.specs.Global.{Vec}
 use Rattle.std.specs.Vec.{with_items}
 use Rattle.std.proofs.lemmas.List.{with_items_is}
 use Rattle.std.specs.Option.{option_map_or}
-use Rattle.std.specs.Bool.{OnTrue}
+use Rattle.std.specs.Prelude.{IfNone}
 use Rattle.std.proofs.lemmas.List.{get_or_read, get_or-map, length-map}
 use Rattle.std.proofs.lemmas.Option.{slice_get_read, slice_get_past}
 use Rattle.std.proofs.lemmas.Bool.{eq-eqb, eqb-true, ne_eqb, cond-true, cond-false, cases_lt}
-use Rattle.wx_base.specs.declared.fact_kind.FactKind.TheVariants.{Loop}
+use Rattle.wx_base.specs.declared.fact_kind.FactKind.{FactKind}
+use Rattle.wx_base.specs.declared.fact_kind.FactKind.TheVariants.{Loop, Total}
 use Rattle.wx_base.specs.Facts.{AreAscending}
 use Rattle.wx_base.specs.Monitor as monitor
 use Rattle.wx_base.specs.State.{replaced}
@@ -17,7 +18,8 @@ use Rattle.flow_graph.specs.declared.program.Function.{Function}
 use Rattle.flow_graph.specs.declared.program.LoopInfo.{LoopInfo}
 use Rattle.flow_graph.specs.Program.{bounded_loop, judged_function}
 use Rattle.run_machine.specs.declared.frame.Frame.{Frame}
-use Rattle.run_machine.specs.Judging.{IsPlace, heads, loops_at, counter_of, frame_with, frame_of, IsGap, IsFrame, counted, arrived}
+use Rattle.run_machine.specs.declared.totals.Totals.{Totals}
+use Rattle.run_machine.specs.Judging.{IsPlace, heads, loops_at, counter_of, frame_with, frame_of, IsGap, IsFrame, breach_at, counted, summed, totals_of, verdict, watched}
 use Rattle.run_machine.proofs.Searching.{find_there, find_absent, find_between}
 
 find_map : {X Y : Type 0} (f : X → Y) (p : Y → Bool) (xs : List X) → find p (map f xs) ≡ option_map f (find (λ x. p (f x)) xs)
@@ -109,10 +111,11 @@ opens loops entry n counts e =
     ap (λ (f : ℕ → ℕ). record { function = entry; last = None; counter = f }) (opened_with (heads loops) n counts e)
 
 -- where no head is, nothing is counted
-pub stays : (functions : List Function) (frame : Frame) (to : ℕ) → IsFrame functions frame → find (λ l. eqb l.head to) (map bounded_loop (loops_at functions frame.place)) ≡ None → monitor.at_head (find (λ l. eqb l.head to) (monitor.loops_of (map judged_function functions) frame.entry)) (frame_of functions frame) ≡ Ok (frame_of functions frame)
-stays functions frame to ok none =
-    ap (λ (loops : List monitor.BoundedLoop). monitor.at_head (find (λ l. eqb l.head to) loops) (frame_of functions frame)) ok.loops
-    ∙ ap (λ (o : Option monitor.BoundedLoop). monitor.at_head o (frame_of functions frame)) none
+pub stays : (functions : List Function) (frame : Frame) (to : ℕ) (callers : List monitor.Frame) (totals : Totals) → IsFrame functions frame → find (λ l. eqb l.head to) (map bounded_loop (loops_at functions frame.place)) ≡ None
+    → monitor.at_head (find (λ l. eqb l.head to) (monitor.loops_of (map judged_function functions) frame.entry)) (frame_of functions frame) callers (totals_of totals) ≡ Ok (watched (frame_of functions frame) callers totals)
+stays functions frame to callers totals ok none =
+    ap (λ (loops : List monitor.BoundedLoop). monitor.at_head (find (λ l. eqb l.head to) loops) (frame_of functions frame) callers (totals_of totals)) ok.loops
+    ∙ ap (λ (o : Option monitor.BoundedLoop). monitor.at_head o (frame_of functions frame) callers (totals_of totals)) none
 
 -- a place behind all has no loops
 pub none_behind : (functions : List Function) (place to : ℕ) → length functions ≤ place → find (λ l. eqb l.head to) (map bounded_loop (loops_at functions place)) ≡ None
@@ -120,19 +123,23 @@ none_behind functions place to le =
     ap (λ (o : Option Function). find (λ l. eqb l.head to) (map bounded_loop (option_map_or (λ f. f.loops) o []))) (slice_get_past functions place le)
 
 -- the same move, judged by the loops of the function at the place
-pub moves : (functions : List Function) (frame : Frame) (to : ℕ) (loops : List LoopInfo) (kept : Bool) (old new : List ℕ) (counts : Vec ℕ) → IsFrame functions frame → loops_at functions frame.place ≡ loops → old ≡ frame.counts.items → counts.items ≡ new → monitor.at_head (find (λ l. eqb l.head to) (map bounded_loop loops)) (frame_with loops frame.entry frame.last old) ≡ arrived kept (frame_with loops frame.entry frame.last new)
-    → monitor.at_head (find (λ l. eqb l.head to) (monitor.loops_of (map judged_function functions) frame.entry)) (frame_of functions frame) ≡ arrived kept (frame_with (loops_at functions frame.place) frame.entry frame.last counts.items)
-moves functions frame to loops kept old new counts ok same was is moved =
-    ap (λ (loops : List monitor.BoundedLoop). monitor.at_head (find (λ l. eqb l.head to) loops) (frame_of functions frame)) ok.loops
-    ∙ ap (λ (ls : List LoopInfo). monitor.at_head (find (λ l. eqb l.head to) (map bounded_loop ls)) (frame_with ls frame.entry frame.last frame.counts.items)) same
-    ∙ ap (λ (cs : List ℕ). monitor.at_head (find (λ l. eqb l.head to) (map bounded_loop loops)) (frame_with loops frame.entry frame.last cs)) (sym was)
-    ∙ moved ∙ ap (λ (ls : List LoopInfo). arrived kept (frame_with ls frame.entry frame.last new)) (sym same)
-    ∙ ap (λ (cs : List ℕ). arrived kept (frame_with (loops_at functions frame.place) frame.entry frame.last cs)) (sym is)
+pub moves : (functions : List Function) (frame : Frame) (to : ℕ) (loops : List LoopInfo) (breach : Option FactKind) (old new : List ℕ) (counts : Vec ℕ) (callers : List monitor.Frame) (totals totals' : Totals)
+    → IsFrame functions frame → loops_at functions frame.place ≡ loops → old ≡ frame.counts.items → counts.items ≡ new
+    → monitor.at_head (find (λ l. eqb l.head to) (map bounded_loop loops)) (frame_with loops frame.entry frame.last old) callers (totals_of totals) ≡ verdict breach (watched (frame_with loops frame.entry frame.last new) callers totals')
+    → monitor.at_head (find (λ l. eqb l.head to) (monitor.loops_of (map judged_function functions) frame.entry)) (frame_of functions frame) callers (totals_of totals)
+    ≡ verdict breach (watched (frame_with (loops_at functions frame.place) frame.entry frame.last counts.items) callers totals')
+moves functions frame to loops breach old new counts callers totals totals' ok same was is moved =
+    ap (λ (loops : List monitor.BoundedLoop). monitor.at_head (find (λ l. eqb l.head to) loops) (frame_of functions frame) callers (totals_of totals)) ok.loops
+    ∙ ap (λ (ls : List LoopInfo). monitor.at_head (find (λ l. eqb l.head to) (map bounded_loop ls)) (frame_with ls frame.entry frame.last frame.counts.items) callers (totals_of totals)) same
+    ∙ ap (λ (cs : List ℕ). monitor.at_head (find (λ l. eqb l.head to) (map bounded_loop loops)) (frame_with loops frame.entry frame.last cs) callers (totals_of totals)) (sym was)
+    ∙ moved ∙ ap (λ (ls : List LoopInfo). verdict breach (watched (frame_with ls frame.entry frame.last new) callers totals')) (sym same)
+    ∙ ap (λ (cs : List ℕ). verdict breach (watched (frame_with (loops_at functions frame.place) frame.entry frame.last cs) callers totals')) (sym is)
 
 -- a move between two heads
-pub missed : (loops : List LoopInfo) (i to : ℕ) (frame : monitor.Frame) → IsPlace (λ l. l.head) loops to (Err i) → monitor.at_head (find (λ l. eqb l.head to) (map bounded_loop loops)) frame ≡ Ok frame
-missed loops i to frame place =
-    ap (λ (o : Option monitor.BoundedLoop). monitor.at_head o frame) (no_head loops to (find_between (λ l. l.head) loops to i place))
+pub missed : (loops : List LoopInfo) (i to : ℕ) (frame : monitor.Frame) (callers : List monitor.Frame) (totals : ℕ → ℕ) → IsPlace (λ l. l.head) loops to (Err i)
+    → monitor.at_head (find (λ l. eqb l.head to) (map bounded_loop loops)) frame callers totals ≡ Ok (record { frames = frame ∷ callers; totals = totals })
+missed loops i to frame callers totals place =
+    ap (λ (o : Option monitor.BoundedLoop). monitor.at_head o frame callers totals) (no_head loops to (find_between (λ l. l.head) loops to i place))
 
 -- the head at a place is that of its loop
 pub head_there : (loops : List LoopInfo) (i to : ℕ) (l : LoopInfo) → AllPairs (λ l m. l.head < m.head) loops → IsPlace (λ l. l.head) loops to (Ok i) → l ≡ get_or loops i l → find (λ l. eqb l.head to) (map bounded_loop loops) ≡ Some (bounded_loop l)
@@ -182,42 +189,67 @@ counter_set (h ∷ hs) (c ∷ counts) (suc i) n at up within same =
     swapped true b c n d apart = ap (λ (b : Bool). cond b n c) (sym (apart refl))
     swapped false b c n d apart = refl
 
+if_none : {X : Type 0} {P : Type 0} (o : Option X) → o ≡ None → IfNone o P → P
+if_none None e p = p
+if_none (Some x) e p = absurd (cc)
+
+-- what the tests of a move into a head come to
+tested : (a b : Bool) (breach : Option FactKind) (w v : monitor.Watch) → breach ≡ cond a (Some Loop) (cond b (Some Total) None) → (breach ≡ None → w ≡ v)
+    → cond a (Err Loop) (cond b (Err Total) (Ok w)) ≡ verdict breach v
+tested true b breach w v e h = ap (λ (x : Option FactKind). verdict x v) (sym e)
+tested false true breach w v e h = ap (λ (x : Option FactKind). verdict x v) (sym e)
+tested false false breach w v e h = ap Ok (h e) ∙ ap (λ (x : Option FactKind). verdict x v) (sym e)
+
 -- a move into a head, by what was counted there
-module _ (loops : List LoopInfo) (l : LoopInfo) (i : ℕ) (counts new : List ℕ) (frame : monitor.Frame) (inside kept : Bool) where
+module _ (loops : List LoopInfo) (l : LoopInfo) (i : ℕ) (counts new : List ℕ) (frame : monitor.Frame) (callers : List monitor.Frame) (inside : Bool) (breach : Option FactKind) (totals totals' : Totals) where
   pub hit : AllPairs (λ l m. l.head < m.head) loops → i < length loops → l ≡ get_or loops i l → length counts ≡ length loops → frame.counter ≡ counter_of (heads loops) counts → inside ≡ option_map_or (monitor.is_one_of l.members) frame.last false
-      → kept ≡ not (ltb l.maxcount (counted inside (get_or counts i 0))) → OnTrue kept (new ≡ set counts i (counted inside (get_or counts i 0)))
-      → monitor.at_head (Some (bounded_loop l)) frame ≡ arrived kept (record frame { counter = counter_of (heads loops) new })
-  hit up within at same is side keeps written =
+      → breach ≡ breach_at l inside (get_or counts i 0) (totals_of totals l.head)
+      → IfNone breach (new ≡ set counts i (counted inside (get_or counts i 0)))
+      → IfNone breach (totals_of totals' ≡ replaced (totals_of totals) l.head (summed inside (totals_of totals l.head)))
+      → monitor.at_head (Some (bounded_loop l)) frame callers (totals_of totals) ≡ verdict breach (watched (record frame { counter = counter_of (heads loops) new }) callers totals')
+  hit up within at same is side broken written total_written =
       let hs = heads loops in
       let ascends : AreAscending hs = heads_ascend loops l up in
       let there : i < length hs = omega (arith, length-map loops (λ (l : LoopInfo). l.head)) in
       let few : length counts ≡ length hs = omega (arith, length-map loops (λ (l : LoopInfo). l.head)) in
       let head : get_or hs i 0 ≡ l.head = get_or-map (λ (l : LoopInfo). l.head) loops i l 0 within ∙ ap (λ (l : LoopInfo). l.head) (sym at) in
       let n = counted inside (get_or counts i 0) in
+      let t = summed inside (totals_of totals l.head) in
       let had : frame.counter l.head ≡ get_or counts i 0 = ap (λ (f : ℕ → ℕ). f l.head) is ∙ ap (counter_of hs counts) (sym head) ∙ counter_at hs counts i ascends there few in
       let into : monitor.count_into (bounded_loop l) frame ≡ n = ap (λ (b : Bool). cond b (frame.counter l.head + 1) 0) (sym side) ∙ ap (λ (x : ℕ). counted inside x) had in
+      let total : monitor.total_into (bounded_loop l) frame (totals_of totals) ≡ t = ap (λ (b : Bool). summed b (totals_of totals l.head)) (sym side) in
       let set_is : (at : ℕ) → replaced frame.counter l.head n at ≡ counter_of hs (set counts i n) at = λ at. ap (λ (f : ℕ → ℕ). replaced f l.head n at) is ∙ ap (λ (h : ℕ). replaced (counter_of hs counts) h n at) (sym head) ∙ sym (counter_set hs counts i n at ascends there few) in
-      ap (λ (x : ℕ). cond (ltb l.maxcount x) (Err Loop) (Ok (record frame { counter = replaced frame.counter l.head x }))) into
-      ∙ by_test (ltb l.maxcount n) kept (replaced frame.counter l.head n) (counter_of hs new) keeps
-      (λ e. (λ j at. (set_is at ∙ ap (λ cs. counter_of hs cs at) (sym (yes kept e written))) j))
-    where
-      yes : (b : Bool) → b ≡ true → {P : Type 0} → OnTrue b P → P
-      yes true e p = p
-      yes false e p = absurd (cc)
-
-      by_test : (b k : Bool) (f g : ℕ → ℕ) → k ≡ not b → (k ≡ true → f ≡ g) → cond b (Err Loop) (Ok (record frame { counter = f })) ≡ arrived k (record frame { counter = g })
-      by_test true true f g e h = absurd (cc)
-      by_test true false f g e h = refl
-      by_test false true f g e h = ap (λ (f : ℕ → ℕ). Ok (record frame { counter = f })) (h refl)
-      by_test false false f g e h = absurd (cc)
+      let counter_is : breach ≡ None → ◌≡◌ {A = ℕ → ℕ} (replaced frame.counter l.head n) (counter_of hs new) = λ e. (λ j at. (set_is at ∙ ap (λ cs. counter_of hs cs at) (sym (if_none breach e written))) j) in
+      ap (λ (x : ℕ). cond (ltb l.maxcount x) (Err Loop) (cond (option_map_or (monitor.is_one_of l.members) frame.last false && monitor.exceeds (monitor.total_into (bounded_loop l) frame (totals_of totals)) l.totalcount) (Err Total)
+      (Ok (record { frames = record frame { counter = replaced frame.counter l.head x } ∷ callers; totals = replaced (totals_of totals) l.head (monitor.total_into (bounded_loop l) frame (totals_of totals)) })))) into
+      ∙ ap (λ (x : ℕ). cond (ltb l.maxcount n) (Err Loop) (cond (option_map_or (monitor.is_one_of l.members) frame.last false && monitor.exceeds x l.totalcount) (Err Total)
+      (Ok (record { frames = record frame { counter = replaced frame.counter l.head n } ∷ callers; totals = replaced (totals_of totals) l.head x })))) total
+      ∙ ap (λ (b : Bool). cond (ltb l.maxcount n) (Err Loop) (cond (b && monitor.exceeds t l.totalcount) (Err Total)
+      (Ok (record { frames = record frame { counter = replaced frame.counter l.head n } ∷ callers; totals = replaced (totals_of totals) l.head t })))) (sym side)
+      ∙ tested (ltb l.maxcount n) (inside && monitor.exceeds t l.totalcount) breach
+      (record { frames = record frame { counter = replaced frame.counter l.head n } ∷ callers; totals = replaced (totals_of totals) l.head t })
+      (watched (record frame { counter = counter_of hs new }) callers totals') broken
+      (λ e. (λ j. record { frames = record frame { counter = counter_is e j } ∷ callers; totals = sym (if_none breach e total_written) j }))
 
 -- a move into the head at a place
-pub hit_there : (loops : List LoopInfo) (i to : ℕ) (l : LoopInfo) (counts new : List ℕ) (frame : monitor.Frame) (inside kept : Bool) → AllPairs (λ l m. l.head < m.head) loops → IsPlace (λ l. l.head) loops to (Ok i) → l ≡ get_or loops i l → length counts ≡ length loops → inside ≡ option_map_or (monitor.is_one_of l.members) frame.last false
-    → kept ≡ not (ltb l.maxcount (counted inside (get_or counts i 0))) → OnTrue kept (new ≡ set counts i (counted inside (get_or counts i 0))) → frame.counter ≡ counter_of (heads loops) counts
-    → monitor.at_head (find (λ l. eqb l.head to) (map bounded_loop loops)) frame ≡ arrived kept (record frame { counter = counter_of (heads loops) new })
-hit_there loops i to l counts new frame inside kept up here at same side keeps written is =
-    ap (λ (o : Option monitor.BoundedLoop). monitor.at_head o frame) (head_there loops i to l up here at)
-    ∙ hit loops l i counts new frame inside kept up here.0 at same is side keeps written
+pub hit_there : (loops : List LoopInfo) (i to : ℕ) (l : LoopInfo) (counts new : List ℕ) (frame : monitor.Frame) (callers : List monitor.Frame) (inside : Bool) (breach : Option FactKind) (totals totals' : Totals)
+    → AllPairs (λ l m. l.head < m.head) loops → IsPlace (λ l. l.head) loops to (Ok i) → l ≡ get_or loops i l → length counts ≡ length loops → inside ≡ option_map_or (monitor.is_one_of l.members) frame.last false
+    → breach ≡ breach_at l inside (get_or counts i 0) (totals_of totals l.head)
+    → IfNone breach (new ≡ set counts i (counted inside (get_or counts i 0)))
+    → IfNone breach (totals_of totals' ≡ replaced (totals_of totals) l.head (summed inside (totals_of totals l.head)))
+    → frame.counter ≡ counter_of (heads loops) counts
+    → monitor.at_head (find (λ l. eqb l.head to) (map bounded_loop loops)) frame callers (totals_of totals) ≡ verdict breach (watched (record frame { counter = counter_of (heads loops) new }) callers totals')
+hit_there loops i to l counts new frame callers inside breach totals totals' up here at same side broken written total_written is =
+    ap (λ (o : Option monitor.BoundedLoop). monitor.at_head o frame callers (totals_of totals)) (head_there loops i to l up here at)
+    ∙ hit loops l i counts new frame callers inside breach totals totals' up here.0 at same is side broken written total_written
+
+-- a move from outside keeps the totals
+pub same_totals : (totals : ℕ → ℕ) (head : ℕ) → ◌≡◌ {A = ℕ → ℕ} totals (replaced totals head (totals head))
+same_totals totals head = λ i at. by at (eqb at head) refl i
+  where
+    by : (at : ℕ) (b : Bool) → eqb at head ≡ b → totals at ≡ cond b (totals head) (totals at)
+    by at true e = ap totals (eqb-true at head e)
+    by at false e = refl
 
 -- the counters of a frame, as the definitions see a vector after a write through its slice
 pub written_items : (v : Vec ℕ) (new : List ℕ) → length new ≡ length v.items → (with_items v new).items ≡ new

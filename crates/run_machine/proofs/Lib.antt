@@ -3,5 +3,5 @@ pub mod Frames
 pub mod Moves
 pub mod Steps
 pub mod Whole
-pub mod Rising
-pub mod Fresh
+pub mod Few
+pub mod TotalCounts

@@ -1,8 +1,9 @@
--- What the activations that a run keeps stand for: the frames of the definitions. This project's own.
-use Rattle.std.specs.Prelude.{◌≡◌, ℕ, ◌+◌, ◌<◌, ◌≤◌, ◌==◌, ◌&&◌, Bool, true, false, if◌then◌else◌, List, [], ◌∷◌, map, reverse, length, slice_get, slice_index_or, find, All, AllPairs, Option, Some, None, Result, Ok, Err}
-use Rattle.std.specs.Option.{option_map_or}
+-- What the activations and counts that a run keeps stand for: the frames and totals of the definitions. This project's own.
+use Rattle.std.specs.Prelude.{◌≡◌, ℕ, ◌+◌, ◌<◌, ◌≤◌, ◌==◌, ◌&&◌, nat_lt, Bool, true, false, if◌then◌else◌, List, [], ◌∷◌, map, reverse, length, slice_get, slice_index_or, find, All, AllPairs, Option, Some, None, Result, Ok, Err}
+use Rattle.std.specs.Map.{lookup}
+use Rattle.std.specs.Option.{option_map_or, unwrap_or}
 use Rattle.wx_base.specs.declared.fact_kind.FactKind.{FactKind}
-use Rattle.wx_base.specs.declared.fact_kind.FactKind.TheVariants.{Loop}
+use Rattle.wx_base.specs.declared.fact_kind.FactKind.TheVariants.{Loop, Total}
 use Rattle.wx_base.specs.declared.flow.FlowKind.{FlowKind}
 use Rattle.wx_base.specs.Facts.{AreAscending}
 use Rattle.wx_base.specs.Monitor as monitor
@@ -13,6 +14,7 @@ use Rattle.run_machine.specs.declared.came.Came.{Came}
 use Rattle.run_machine.specs.declared.came.Came.TheVariants.{First, On, Jumped}
 use Rattle.run_machine.specs.declared.frame.Frame.{Frame}
 use Rattle.run_machine.specs.declared.monitor.Monitor.{Monitor}
+use Rattle.run_machine.specs.declared.totals.Totals.{Totals}
 
 -- what a search for a key finds in a list that ascends by it: where it stands, or between which two it is missing
 abbrev pub IsPlace : {X : Type 0} → (X → ℕ) → List X → ℕ → Result ℕ ℕ → Type 0
@@ -62,10 +64,32 @@ pub record IsFrame (functions : List Function) (frame : Frame) : Type 0 where
 abbrev pub counted : Bool → ℕ → ℕ
 counted inside count = if inside then count + 1 else 0
 
--- a frame after a move that leads into no head too often, or the rule that it breaks
-abbrev pub arrived : Bool → monitor.Frame → Result monitor.Frame FactKind
-arrived true frame = Ok frame
-arrived false frame = Err Loop
+-- the total of a head after a move into it: one more from inside
+abbrev pub summed : Bool → ℕ → ℕ
+summed inside total = if inside then total + 1 else total
+
+-- the rule that a move into the head of a loop breaks, by its bounds and what was counted before
+abbrev pub breach_at : LoopInfo → Bool → ℕ → ℕ → Option FactKind
+breach_at l inside count total =
+    if nat_lt l.maxcount (counted inside count)
+    then Some Loop
+    else (if inside && monitor.exceeds (summed inside total) l.totalcount then Some Total else None)
+
+-- the totals that counts of heads stand for; a head that has none was never moved back into
+abbrev pub totals_of : Totals → ℕ → ℕ
+totals_of totals = λ head. unwrap_or (lookup (λ h. head == h) totals.counts.entries) 0
+
+-- what a run carries, by its youngest frame, the others, and the counts of heads
+abbrev pub watched : monitor.Frame → List monitor.Frame → Totals → monitor.Watch
+watched frame callers totals = record { frames = frame ∷ callers; totals = totals_of totals }
+
+-- the most instructions of which a run is followed
+abbrev pub most_steps : ℕ
+most_steps = 1000000000
+
+-- no head was moved back into more often than a run has instructions
+pub record AreFew (totals : ℕ → ℕ) : Type 0 where
+  pub each : (head : ℕ) → totals head < most_steps
 
 -- the frames of the open calls
 abbrev pub callers_of : List Function → Monitor → List monitor.Frame
@@ -80,21 +104,20 @@ pub record IsMonitor (functions : List Function) (m : Monitor) : Type 0 where
   pub current : IsFrame functions m.current
   pub callers : All (λ frame. IsFrame functions frame) m.callers.items
 
--- what the move by which a run came to an address makes of the frames; the first instruction is reached by no move
-abbrev pub decided : monitor.Rules → Came → monitor.Frame → List monitor.Frame → ℕ → Result (List monitor.Frame) FactKind
-decided rules First frame callers to = Ok (frame ∷ callers)
-decided rules On frame callers to = monitor.moved_within rules.functions frame callers to
-decided rules (Jumped flow) frame callers to = monitor.jumped rules frame callers flow to
+-- all that a run carries
+abbrev pub watch_of : List Function → Monitor → monitor.Watch
+watch_of functions m = watched (frame_of functions m.current) (callers_of functions m) m.totals
 
--- the frames, if no rule is broken
-abbrev pub verdict : Option FactKind → List monitor.Frame → Result (List monitor.Frame) FactKind
-verdict None frames = Ok frames
-verdict (Some fact) frames = Err fact
+-- what the move by which a run came to an address makes of what it carries; the first instruction is reached by no move
+abbrev pub decided : monitor.Rules → Came → monitor.Frame → List monitor.Frame → (ℕ → ℕ) → ℕ → Result monitor.Watch FactKind
+decided rules First frame callers totals to = Ok (record { frames = frame ∷ callers; totals = totals })
+decided rules On frame callers totals to = monitor.moved_within rules.functions frame callers totals to
+decided rules (Jumped flow) frame callers totals to = monitor.jumped rules frame callers totals flow to
 
--- the rule that is broken where a move leads into a head too often
-abbrev pub breach_of : Bool → Option FactKind
-breach_of true = None
-breach_of false = Some Loop
+-- what the run carries, if no rule is broken
+abbrev pub verdict : Option FactKind → monitor.Watch → Result monitor.Watch FactKind
+verdict None watch = Ok watch
+verdict (Some fact) watch = Err fact
 
 -- whether an instruction by which a run came on has returned from the start's own function
 abbrev pub leaves_by : Came → List monitor.Frame → Bool

@@ -2,4 +2,3 @@ pub mod Judging
 pub mod Report
 pub mod Walk
 pub mod Look
-pub mod Starts

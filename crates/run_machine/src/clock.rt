@@ -6,14 +6,16 @@ ghost use Rattle.wx_base.specs.Cache.{Lines, line_of, holds_line, accessed};
 ghost use Rattle.wx_base.specs.Machine.{IsMachine};
 ghost use Rattle.wx_base.specs.Recurrence.{Done};
 ghost use Rattle.arm_code.specs.Encoding.{IsValid, word_of};
-ghost use Rattle.run_machine.specs.Walk.{IsClock, Tells, done_now, most_steps};
+ghost use Rattle.run_machine.specs.Judging.{most_steps};
+ghost use Rattle.run_machine.specs.Walk.{IsClock, Tells, done_now};
 
 use arm_code::Insn;
 use cache_lru::Lru;
 use pipe_time::{Entry, Vector, advance, windows_follow_the_past};
 use wx_base::Machine;
 
-/// What is known of the instructions that a run has executed: all on which later times depend, the time, and their number.
+/// What is known of the instructions that a run has executed: all on which later times depend, the time, and their
+/// number.
 #[derive(Drop)]
 pub(crate) struct Clock {
     pub(crate) cache: Lru,
@@ -49,7 +51,9 @@ impl Clock {
         requires valid { IsValid insn.now }
         requires clock { IsClock machine.now self.old }
         requires few { self.old.steps < most_steps }
-        ensures told { (past : List Done) (cache : Lines) → Tells machine.now past cache self.old → Tells machine.now (done_now machine.now past cache (word_of insn.now) addr taken slow ∷ past) (accessed machine.now.shape cache (line_of machine.now.shape addr)) self.new }
+        ensures told { (past : List Done) (cache : Lines) → Tells machine.now past cache self.old
+            → Tells machine.now (done_now machine.now past cache (word_of insn.now) addr taken slow ∷ past)
+            (accessed machine.now.shape cache (line_of machine.now.shape addr)) self.new }
         ensures clock { IsClock machine.now self.new }
         ensures steps { self.new.steps ≡ self.old.steps + 1 }
     {

@@ -1,18 +1,21 @@
 //! An activation of a function.
 
-ghost use Rattle.std.specs.Prelude.{replicate, ◌≡◌, ◌<◌, ◌≤◌, ◌+◌, ◌^◌, true, not, nat_lt, find, map, length, slice_index, slice_index_or, slice_set, AllPairs, All, ℕ, IfOk, false, ◌==◌};
+ghost use Rattle.std.specs.Prelude.{replicate, ◌≡◌, ◌<◌, ◌≤◌, not, nat_lt, find, map, length, slice_index, slice_index_or, slice_set, AllPairs, All, List, ℕ, IfNone, IfOk, OnOk, false, ◌==◌};
 ghost use Rattle.std.specs.Option.{option_map_or};
 ghost use Rattle.std.specs.Bool.{OnTrue, OnFalse};
 ghost use Rattle.wx_base.specs.Facts.{AreAscending};
+ghost use Rattle.wx_base.specs.Monitor as monitor;
 ghost use Rattle.wx_base.specs.Monitor.{is_one_of, at_head, loops_of, opened};
+ghost use Rattle.wx_base.specs.State.{replaced};
 ghost use Rattle.flow_graph.specs.Program.{judged_function, bounded_loop};
 ghost use Rattle.flow_graph.specs.declared.program.LoopInfo.{LoopInfo};
-ghost use Rattle.run_machine.specs.Judging.{Ordered, counted, frame_with, frame_of, IsFrame, IsGap, heads, arrived};
+ghost use Rattle.run_machine.specs.Judging.{AreFew, Ordered, breach_at, counted, frame_with, frame_of, IsFrame, IsGap, summed, totals_of, verdict, watched};
 
 use crate::search::{is_one_of, place_of_entry, place_of_head};
+use crate::totals::Totals;
 use flow_graph::{Function, LoopInfo};
 use std::alloc::Global;
-use wx_base::NoMemory;
+use wx_base::{FactKind, NoMemory};
 
 /// An activation of a function, with a counter for each of the function's loops.
 #[derive(Drop)]
@@ -25,12 +28,14 @@ pub(crate) struct Frame {
     pub(crate) last: Option<u32>,
     /// How often the back edges of each loop were taken since the loop was entered.
     pub(crate) counts: Vec<u32>,
-    /// No head of the function's loops is an address from `low` on and below `high`, so that moves there touch no counter.
+    /// No head of the function's loops is an address from `low` on and below `high`, so that moves there touch no
+    /// counter.
     pub(crate) low: u64,
     pub(crate) high: u64,
 }
 
-/// The addresses around those of loop `i` and of the one before it, in which no head lies: from the one head to the other.
+/// The addresses around those of loop `i` and of the one before it, in which no head lies: from the one head to the
+/// other.
 #[derive(Clone, Copy)]
 struct Gap {
     low: u64,
@@ -87,15 +92,15 @@ fn is_inside(members: &[u32], last: Option<u32>) -> bool
     }
 }
 
-/// Counts a move into the head of loop `i`; says whether that is not too often. A move from inside is one more, and any
-/// other enters the loop.
-fn count(counts: &mut [u32], i: usize, inside: bool, maxcount: u32) -> bool
+/// Counts a move into the head of loop `i` in the stay; says whether that is not too often. A move from inside is one
+/// more, and any other enters the loop.
+fn count(counts: &mut [u32], i: usize, back: bool, maxcount: u32) -> bool
     requires { i < length counts.old }
-    ensures kept { result ≡ not (nat_lt maxcount (counted inside (slice_index counts.old i))) }
-    ensures counted { OnTrue result (counts.new ≡ slice_set counts.old i (counted inside (slice_index counts.old i))) }
+    ensures kept { result ≡ not (nat_lt maxcount (counted back (slice_index counts.old i))) }
+    ensures counted { OnTrue result (counts.new ≡ slice_set counts.old i (counted back (slice_index counts.old i))) }
     ensures stays { OnFalse result (counts.new ≡ counts.old) }
 {
-    if !inside {
+    if !back {
         counts[i] = 0;
         return true;
     }
@@ -106,35 +111,81 @@ fn count(counts: &mut [u32], i: usize, inside: bool, maxcount: u32) -> bool
     true
 }
 
-/// What a move between heads comes to: whether it leads into no head too often, and the addresses around it without heads.
+/// Counts a move into the head of loop `i`, in the stay and in the whole run; the answer is the rule that it breaks,
+/// if it breaks one.
+///
+/// `NoMemory` where there is no room for the head's first count of the whole run.
+fn count_all(
+    counts: &mut [u32],
+    totals: &mut Totals,
+    i: usize,
+    entered: &LoopInfo,
+    inside: bool,
+) -> Result<Option<FactKind>, NoMemory>
+    requires place { i < length counts.old }
+    requires few { AreFew (totals_of totals.old) }
+    ensures breach { IfOk result
+        (λ breach. breach ≡ breach_at entered.now inside (slice_index counts.old i)
+        (totals_of totals.old entered.now.head)) }
+    ensures counted { IfOk result
+        (λ breach. IfNone breach (counts.new ≡ slice_set counts.old i (counted inside (slice_index counts.old i)))) }
+    ensures summed { IfOk result
+        (λ breach. IfNone breach (totals_of totals.new
+        ≡ replaced (totals_of totals.old) entered.now.head (summed inside (totals_of totals.old entered.now.head)))) }
+{
+    if !count(counts, i, inside, entered.maxcount) {
+        return Ok(Some(FactKind::Loop));
+    }
+    if !inside {
+        return Ok(None);
+    }
+    if totals.count(entered.head, entered.totalcount)? {
+        Ok(None)
+    } else {
+        Ok(Some(FactKind::Total))
+    }
+}
+
+/// What a move between heads comes to: the rule that it breaks, if it breaks one, and the addresses around it without
+/// heads.
 #[derive(Clone, Copy)]
 struct Arrival {
-    kept: bool,
+    breach: Option<FactKind>,
     gap: Gap,
 }
 
 /// Counts a move to an address by a function whose last address is this, if it leads into a head.
-fn arrive(loops: &[LoopInfo], counts: &mut [u32], last: Option<u32>, to: u32) -> Arrival
+fn arrive(
+    loops: &[LoopInfo],
+    counts: &mut [u32],
+    totals: &mut Totals,
+    last: Option<u32>,
+    to: u32,
+) -> Result<Arrival, NoMemory>
     requires heads { AllPairs (λ l m. l.head < m.head) loops.now }
     requires members { All (λ l. AreAscending l.members) loops.now }
     requires counts { length counts.old ≡ length loops.now }
-    ensures moved { (entry : ℕ) → at_head (find (λ l. l.head == to) (map bounded_loop loops.now)) (frame_with loops.now entry last counts.old) ≡ arrived result.kept (frame_with loops.now entry last counts.new) }
-    ensures gap { IsGap loops.now result.gap.low result.gap.high }
+    requires few { AreFew (totals_of totals.old) }
+    ensures moved { IfOk result (λ arrival. (entry : ℕ) (callers : List monitor.Frame)
+        → at_head (find (λ l. l.head == to) (map bounded_loop loops.now))
+        (frame_with loops.now entry last counts.old) callers (totals_of totals.old)
+        ≡ verdict arrival.breach (watched (frame_with loops.now entry last counts.new) callers totals.new)) }
+    ensures gap { IfOk result (λ arrival. IsGap loops.now arrival.gap.low arrival.gap.high) }
 {
     match place_of_head(loops, to) {
         Ok(i) => {
             let entered = &loops[i];
             let inside = is_inside(entered.members.as_slice(), last);
-            let kept = count(counts, i, inside, entered.maxcount);
-            Arrival {
-                kept,
+            let breach = count_all(counts, totals, i, entered, inside)?;
+            Ok(Arrival {
+                breach,
                 gap: gap_before(loops, i + 1),
-            }
+            })
         }
-        Err(i) => Arrival {
-            kept: true,
+        Err(i) => Ok(Arrival {
+            breach: None,
             gap: gap_before(loops, i),
-        },
+        }),
     }
 }
 
@@ -178,24 +229,35 @@ impl Frame {
         }
     }
 
-    /// Judges a move to an address inside the function: whether it leads into no head too often, which is counted. A move
-    /// between two heads takes the same time whatever the program.
-    pub(crate) fn enter(&mut self, functions: &[Function], to: u32) -> bool
+    /// Judges a move to an address inside the function: the rule that it breaks, if it breaks one. A move into a head
+    /// is counted, and one between two heads takes the same time whatever the program.
+    ///
+    /// `NoMemory` where there is no room for a head's first count of the whole run.
+    pub(crate) fn enter(
+        &mut self,
+        functions: &[Function],
+        totals: &mut Totals,
+        to: u32,
+    ) -> Result<Option<FactKind>, NoMemory>
         requires ordered { Ordered functions.now }
         requires frame { IsFrame functions.now self.old }
-        ensures moved { at_head (find (λ l. l.head == to) (loops_of (map judged_function functions.now) self.old.entry)) (frame_of functions.now self.old) ≡ arrived result (frame_of functions.now self.new) }
-        ensures frame { IsFrame functions.now self.new }
+        requires few { AreFew (totals_of totals.old) }
+        ensures moved { IfOk result (λ breach. (callers : List monitor.Frame)
+            → at_head (find (λ l. l.head == to) (loops_of (map judged_function functions.now) self.old.entry))
+            (frame_of functions.now self.old) callers (totals_of totals.old)
+            ≡ verdict breach (watched (frame_of functions.now self.new) callers totals.new)) }
+        ensures frame { OnOk result (IsFrame functions.now self.new) }
     {
         if self.low <= u64::from(to) && u64::from(to) < self.high {
-            return true;
+            return Ok(None);
         }
         if self.place >= functions.len() {
-            return true;
+            return Ok(None);
         }
         let loops = functions[self.place].loops.as_slice();
-        let arrival = arrive(loops, self.counts.as_mut_slice(), self.last, to);
+        let arrival = arrive(loops, self.counts.as_mut_slice(), totals, self.last, to)?;
         self.low = arrival.gap.low;
         self.high = arrival.gap.high;
-        arrival.kept
+        Ok(arrival.breach)
     }
 }

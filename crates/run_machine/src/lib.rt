@@ -5,17 +5,14 @@ mod came;
 mod clock;
 mod course;
 mod frame;
-mod laws;
 mod look;
 mod monitor;
 mod report;
 mod search;
-#[cfg(test)]
-mod tests;
+mod totals;
 mod walk;
 
 pub use course::run;
-pub use laws::is_a_start;
 pub use report::{End, Report};
-pub use start_file::{Start, StartError, read_start};
+pub use start_file::{Start, StartError, is_a_start, read_start};
 pub use wx_base::{FactKind, Why};

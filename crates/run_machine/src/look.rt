@@ -7,6 +7,7 @@ ghost use Rattle.run_machine.specs.Look.{Looks};
 
 use arm_code::{Insn, decode};
 use arm_step::{Cpu, StepEnd, step};
+use std::alloc::Global;
 use wx_base::{Image, Machine, NoMemory, Why};
 use wx_mem::Memory;
 
@@ -49,11 +50,16 @@ fn word_at(memory: &Memory, image: &Image, addr: u32) -> u32
 /// One step of the machine, with the instruction that was executed.
 ///
 /// `NoMemory` where there is no room for what would be stored.
-pub(crate) fn look(cpu: &mut Cpu, image: &Image, machine: &Machine) -> Result<Looked, NoMemory>
+pub(crate) fn look(
+    alloc: Global,
+    cpu: &mut Cpu,
+    image: &Image,
+    machine: &Machine,
+) -> Result<Looked, NoMemory>
     ensures { IfOk result (λ looked. Looks machine.now image.now cpu.old cpu.new looked) }
 {
     let word = word_at(&cpu.memory, image, cpu.regs[15]);
-    match step(cpu, image, machine)? {
+    match step(alloc, cpu, image, machine)? {
         StepEnd::Stopped { why, .. } => Ok(Looked::Stopped { why }),
         StepEnd::Ended => match decode(word) {
             Some(insn) => Ok(Looked::Ended { insn }),

@@ -1,34 +1,29 @@
-//! The activations of a run, and what its moves make of them.
+//! The activations of a run and its counts of back edges, and what its moves make of them.
 
 ghost use Rattle.std.specs.Prelude.{◌≡◌, ◌∷◌, List, map, not, IfOk, OnOk, unwrap_or, false, ◌&&◌};
 ghost use Rattle.flow_graph.specs.declared.program.Function.{Function};
 ghost use Rattle.wx_base.specs.Facts.{FactsAscend, TargetsAscend};
-ghost use Rattle.wx_base.specs.Monitor.{first_frame, opened, is_outermost, moved_within, returned, jumped, is_target, is_call};
+ghost use Rattle.wx_base.specs.Monitor.{first_watch, called, is_outermost, moved_within, returned, jumped, is_target, is_call};
 ghost use Rattle.flow_graph.specs.Program.{rules_of, judged_function};
-ghost use Rattle.run_machine.specs.Judging.{Ordered, frame_of, callers_of, frames_of, IsMonitor, decided, verdict, breach_of, leaves_by, executed_in};
+ghost use Rattle.run_machine.specs.Judging.{AreFew, Ordered, frame_of, callers_of, frames_of, totals_of, watch_of, IsMonitor, decided, verdict, leaves_by, executed_in};
 
 use crate::came::Came;
 use crate::frame::Frame;
 use crate::search::is_target;
+use crate::totals::Totals;
 use flow_graph::Program;
 use std::alloc::Global;
 use std::mem;
 use wx_base::{FactKind, Facts, FlowKind, NoMemory, TargetFact};
 
-/// The activations of a run: that of the start, and one for each call that is open.
+/// The activations of a run, that of the start and one for each call that is open, and its counts over all of them.
 #[derive(Drop)]
 pub(crate) struct Monitor {
     /// The youngest.
     pub(crate) current: Frame,
     /// The others, the youngest last.
     pub(crate) callers: Vec<Frame>,
-}
-
-/// What the answer of a frame is to the run: whether the loop rule is broken.
-fn breach(kept: bool) -> Option<FactKind>
-    ensures { result ≡ breach_of kept }
-{
-    if kept { None } else { Some(FactKind::Loop) }
+    pub(crate) totals: Totals,
 }
 
 /// Whether a move that has to go to a listed target does not.
@@ -50,13 +45,14 @@ impl Monitor {
     /// The activation of the function in which a run starts.
     pub(crate) fn new(alloc: Global, program: &Program, entry: u32) -> Result<Monitor, NoMemory>
         requires { Ordered program.now.functions }
-        ensures frames { IfOk result (λ m. frames_of program.now.functions m ≡ first_frame entry) }
+        ensures watch { IfOk result (λ m. watch_of program.now.functions m ≡ first_watch entry) }
         ensures monitor { IfOk result (λ m. IsMonitor program.now.functions m) }
     {
         let current = Frame::open(alloc, program.functions.as_slice(), entry)?;
         Ok(Monitor {
             current,
             callers: Vec::new(alloc),
+            totals: Totals::new(alloc),
         })
     }
 
@@ -85,7 +81,9 @@ impl Monitor {
     fn open(&mut self, alloc: Global, program: &Program, entry: u32) -> Result<(), NoMemory>
         requires ordered { Ordered program.now.functions }
         requires monitor { IsMonitor program.now.functions self.old }
-        ensures frames { OnOk result (frames_of program.now.functions self.new ≡ opened entry ∷ frames_of program.now.functions self.old) }
+        ensures watch { OnOk result (watch_of program.now.functions self.new
+            ≡ called (frame_of program.now.functions self.old.current) (callers_of program.now.functions self.old)
+            (totals_of self.old.totals) entry) }
         ensures monitor { OnOk result (IsMonitor program.now.functions self.new) }
     {
         let frame = Frame::open(alloc, program.functions.as_slice(), entry)?;
@@ -95,32 +93,41 @@ impl Monitor {
     }
 
     /// A move inside the youngest activation's function.
-    fn enter(&mut self, program: &Program, to: u32) -> Option<FactKind>
+    fn enter(&mut self, program: &Program, to: u32) -> Result<Option<FactKind>, NoMemory>
         requires ordered { Ordered program.now.functions }
         requires monitor { IsMonitor program.now.functions self.old }
-        ensures moved { moved_within (map judged_function program.now.functions) (frame_of program.now.functions self.old.current) (callers_of program.now.functions self.old) to ≡ verdict result (frames_of program.now.functions self.new) }
-        ensures monitor { IsMonitor program.now.functions self.new }
+        requires few { AreFew (totals_of self.old.totals) }
+        ensures moved { IfOk result (λ breach.
+            moved_within (map judged_function program.now.functions) (frame_of program.now.functions self.old.current)
+            (callers_of program.now.functions self.old) (totals_of self.old.totals) to
+            ≡ verdict breach (watch_of program.now.functions self.new)) }
+        ensures monitor { OnOk result (IsMonitor program.now.functions self.new) }
     {
-        breach(self.current.enter(program.functions.as_slice(), to))
+        self.current
+            .enter(program.functions.as_slice(), &mut self.totals, to)
     }
 
     /// A return: closes the youngest activation.
-    fn close(&mut self, program: &Program, to: u32) -> Option<FactKind>
+    fn close(&mut self, program: &Program, to: u32) -> Result<Option<FactKind>, NoMemory>
         requires ordered { Ordered program.now.functions }
         requires monitor { IsMonitor program.now.functions self.old }
+        requires few { AreFew (totals_of self.old.totals) }
         requires called { is_outermost (frames_of program.now.functions self.old) ≡ false }
-        ensures moved { returned (map judged_function program.now.functions) (callers_of program.now.functions self.old) to ≡ verdict result (frames_of program.now.functions self.new) }
-        ensures monitor { IsMonitor program.now.functions self.new }
+        ensures moved { IfOk result (λ breach.
+            returned (map judged_function program.now.functions) (callers_of program.now.functions self.old)
+            (totals_of self.old.totals) to
+            ≡ verdict breach (watch_of program.now.functions self.new)) }
+        ensures monitor { OnOk result (IsMonitor program.now.functions self.new) }
     {
         let Some(caller) = self.callers.pop() else {
             // A call is open.
-            return None;
+            return Ok(None);
         };
         self.current = caller;
         if to == self.last().wrapping_add(4) {
             self.enter(program, to)
         } else {
-            Some(FactKind::Return)
+            Ok(Some(FactKind::Return))
         }
     }
 
@@ -136,8 +143,12 @@ impl Monitor {
         requires facts { FactsAscend facts.now }
         requires ordered { Ordered program.now.functions }
         requires monitor { IsMonitor program.now.functions self.old }
+        requires few { AreFew (totals_of self.old.totals) }
         requires stays { (flow.ret && is_outermost (frames_of program.now.functions self.old)) ≡ false }
-        ensures moved { IfOk result (λ breach. jumped (rules_of facts.now program.now) (frame_of program.now.functions self.old.current) (callers_of program.now.functions self.old) flow to ≡ verdict breach (frames_of program.now.functions self.new)) }
+        ensures moved { IfOk result (λ breach.
+            jumped (rules_of facts.now program.now) (frame_of program.now.functions self.old.current)
+            (callers_of program.now.functions self.old) (totals_of self.old.totals) flow to
+            ≡ verdict breach (watch_of program.now.functions self.new)) }
         ensures monitor { OnOk result (IsMonitor program.now.functions self.new) }
     {
         let from = self.last();
@@ -152,14 +163,15 @@ impl Monitor {
             return Ok(None);
         }
         if flow.ret {
-            return Ok(self.close(program, to));
+            return self.close(program, to);
         }
-        Ok(self.enter(program, to))
+        self.enter(program, to)
     }
 
     /// Judges the move by which the run came to an address: the rule that it breaks, if it breaks one.
     ///
-    /// `NoMemory` where there is no room for the activation that a call opens.
+    /// `NoMemory` where there is no room for the activation that a call opens, or for a head's first count of the
+    /// whole run.
     pub(crate) fn judge(
         &mut self,
         alloc: Global,
@@ -171,13 +183,17 @@ impl Monitor {
         requires facts { FactsAscend facts.now }
         requires ordered { Ordered program.now.functions }
         requires monitor { IsMonitor program.now.functions self.old }
+        requires few { AreFew (totals_of self.old.totals) }
         requires stays { leaves_by came (frames_of program.now.functions self.old) ≡ false }
-        ensures moved { IfOk result (λ breach. decided (rules_of facts.now program.now) came (frame_of program.now.functions self.old.current) (callers_of program.now.functions self.old) to ≡ verdict breach (frames_of program.now.functions self.new)) }
+        ensures moved { IfOk result (λ breach.
+            decided (rules_of facts.now program.now) came (frame_of program.now.functions self.old.current)
+            (callers_of program.now.functions self.old) (totals_of self.old.totals) to
+            ≡ verdict breach (watch_of program.now.functions self.new)) }
         ensures monitor { OnOk result (IsMonitor program.now.functions self.new) }
     {
         match came {
             Came::First => Ok(None),
-            Came::On => Ok(self.enter(program, to)),
+            Came::On => self.enter(program, to),
             Came::Jumped { flow } => self.jump(alloc, facts, program, flow, to),
         }
     }

@@ -15,9 +15,9 @@ ghost use Rattle.arm_code.specs.Encoding.{IsValid, word_of};
 ghost use Rattle.arm_step.specs.Cpu.{registers_of};
 ghost use Rattle.flow_graph.specs.declared.program.Function.{Function};
 ghost use Rattle.flow_graph.specs.Program.{rules_of};
-ghost use Rattle.run_machine.specs.Judging.{Ordered, came_by, leaves_by, frames_of, executed_in};
-ghost use Rattle.run_machine.specs.Report.{start_of};
-ghost use Rattle.run_machine.specs.Walk.{IsClock, Tells, done_now, IsWalk, Shows, Follows, most_steps, address_of_breach};
+ghost use Rattle.run_machine.specs.Judging.{AreFew, Ordered, came_by, leaves_by, frames_of, totals_of, executed_in, most_steps};
+ghost use Rattle.start_file.specs.StartState.{start_of};
+ghost use Rattle.run_machine.specs.Walk.{IsClock, Tells, done_now, IsWalk, Shows, Follows, address_of_breach};
 
 use crate::came::Came;
 use crate::clock::Clock;
@@ -56,12 +56,13 @@ fn came_by(insn: &Insn, addr: u32, taken: bool) -> Came
     }
 }
 
-/// The address at which a rule is broken: where the move leads for a loop, else that of the instruction before it.
+/// The address at which a rule is broken: where the move leads for the counts of a loop, else that of the instruction
+/// before it.
 fn breach_address(fact: FactKind, last: u32, to: u32) -> u32
     ensures { result ≡ address_of_breach fact last to }
 {
     match fact {
-        FactKind::Loop => to,
+        FactKind::Loop | FactKind::Total => to,
         FactKind::Branch | FactKind::Call | FactKind::Return => last,
     }
 }
@@ -72,8 +73,12 @@ impl Walk {
     /// `NoMemory` where there is no room for the counters of the first function's loops.
     pub(crate) fn new(alloc: Global, start: Start, program: &Program) -> Result<Walk, NoMemory>
         requires { Ordered program.now.functions }
-        ensures shows { IfOk result (λ walk. (machine : Machine) (image : Image) (facts : FlowFacts) → Shows machine image facts program.now (begun (registers_of start.cpu.regs pc) (start_of image start)) walk) }
-        ensures walk { IfOk result (λ walk. (machine : Machine) → start.cache.shape ≡ machine.shape → IsWalk machine program.now walk) }
+        ensures shows { IfOk result
+            (λ walk. (machine : Machine) (image : Image) (facts : FlowFacts)
+            → Shows machine image facts program.now
+            (begun (registers_of start.cpu.regs pc) (start_of image start)) walk) }
+        ensures walk { IfOk result
+            (λ walk. (machine : Machine) → start.cache.shape ≡ machine.shape → IsWalk machine program.now walk) }
         ensures steps { IfOk result (λ walk. walk.clock.steps ≡ 0) }
     {
         windows_follow_the_past();
@@ -93,11 +98,15 @@ impl Walk {
         requires valid { IsValid insn.now }
         requires clock { IsClock machine.now self.old.clock }
         requires few { self.old.clock.steps < most_steps }
-        ensures left { (functions : List Function) → result ≡ leaves_by (came_by taken (flow_of (word_of insn.now) addr)) (frames_of functions (executed_in self.old.monitor addr)) }
+        ensures left { (functions : List Function) → result
+            ≡ leaves_by (came_by taken (flow_of (word_of insn.now) addr))
+            (frames_of functions (executed_in self.old.monitor addr)) }
         ensures cpu { self.new.cpu ≡ self.old.cpu }
         ensures monitor { self.new.monitor ≡ executed_in self.old.monitor addr }
         ensures came { self.new.came ≡ came_by taken (flow_of (word_of insn.now) addr) }
-        ensures told { (past : List Done) (cache : Lines) → Tells machine.now past cache self.old.clock → Tells machine.now (done_now machine.now past cache (word_of insn.now) addr taken slow ∷ past) (accessed machine.now.shape cache (line_of machine.now.shape addr)) self.new.clock }
+        ensures told { (past : List Done) (cache : Lines) → Tells machine.now past cache self.old.clock
+            → Tells machine.now (done_now machine.now past cache (word_of insn.now) addr taken slow ∷ past)
+            (accessed machine.now.shape cache (line_of machine.now.shape addr)) self.new.clock }
         ensures clock { IsClock machine.now self.new.clock }
         ensures steps { self.new.clock.steps ≡ self.old.clock.steps + 1 }
     {
@@ -107,10 +116,11 @@ impl Walk {
         self.monitor.is_left(self.came)
     }
 
-    /// One more instruction: judges the move to it, looks at it, and executes it. The answer is how the run ends, if it does;
-    /// then time and number are those of the instructions executed.
+    /// One more instruction: judges the move to it, looks at it, and executes it. The answer is how the run ends, if
+    /// it does; then time and number are those of the instructions executed.
     ///
-    /// `NoMemory` where there is no room for what the instruction stores, or for a called function's counters.
+    /// `NoMemory` where there is no room for what the instruction stores, for a called function's counters, or for a
+    /// head's first count of the whole run.
     pub(crate) fn advance(
         &mut self,
         alloc: Global,
@@ -124,7 +134,11 @@ impl Walk {
         requires machine { IsMachine machine.now }
         requires walk { IsWalk machine.now program.now self.old }
         requires few { self.old.clock.steps < most_steps }
-        ensures follows { IfOk result (λ end. (run : Run) → Shows machine.now image.now facts.now program.now run self.old → Follows machine.now image.now facts.now program.now (advanced machine.now image.now (rules_of facts.now program.now) run run.end) end self.new) }
+        requires totals { AreFew (totals_of self.old.monitor.totals) }
+        ensures follows { IfOk result
+            (λ end. (run : Run) → Shows machine.now image.now facts.now program.now run self.old
+            → Follows machine.now image.now facts.now program.now
+            (advanced machine.now image.now (rules_of facts.now program.now) run run.end) end self.new) }
         ensures walk { IfOk result (λ end. IfNone end (IsWalk machine.now program.now self.new)) }
         ensures steps { IfOk result (λ end. IfNone end (self.new.clock.steps ≡ self.old.clock.steps + 1)) }
     {
@@ -136,7 +150,7 @@ impl Walk {
                 addr: breach_address(fact, last, addr),
             }));
         }
-        match look(&mut self.cpu, image, machine)? {
+        match look(alloc, &mut self.cpu, image, machine)? {
             Looked::Stopped { why } => Ok(Some(End::Stopped { why, addr })),
             Looked::Ended { insn } => {
                 self.go_on(machine, addr, &insn, false, false);

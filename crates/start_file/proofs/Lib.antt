@@ -1,6 +1,3 @@
-mod StartCursor
-mod StartDecimals
-mod StartHex
 mod StartSoFar
 mod StartFollows
 mod StartFronts
@@ -9,3 +6,4 @@ mod StartLists
 mod StartCauses
 mod StartWhole
 mod StartBegun
+mod StartBytes

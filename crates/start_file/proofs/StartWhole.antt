@@ -10,13 +10,13 @@ use Rattle.std.proofs.lemmas.Str.Parse.{tells_digits}
 use Rattle.std.specs.List.{list_all, join_with_byte, concat}
 use Rattle.std.specs.Int.{IsInRange}
 use Rattle.std.specs.Str.Parse.{AllDigits}
-use Rattle.wx_base.specs.Decimal.{decimal}
-use Rattle.wx_base.specs.Hexadecimal.{hex_digit, hex_word}
+use Rattle.wx_text.specs.Decimal.{decimal}
+use Rattle.wx_text.specs.Hexadecimal.{hex_byte, hex_digit, hex_word}
 use Rattle.wx_base.specs.declared.image.Image.{Image}
 use Rattle.wx_base.specs.declared.machine.Shape.{Shape}
 use Rattle.start_file.specs.declared.start_item.Item.{Item}
 use Rattle.start_file.specs.declared.start_item.Item.TheVariants as item
-use Rattle.start_file.specs.Start.{words_of, name_of, kind_of, arguments, hex_byte, flag_digit, Fits}
+use Rattle.start_file.specs.Start.{words_of, name_of, kind_of, arguments, flag_digit, Fits}
 use Rattle.start_file.specs.StartText.{words_in, lines_in, IsProper, IsStart, IsStartText}
 use Rattle.start_file.specs.StartLaws.{line_text}
 

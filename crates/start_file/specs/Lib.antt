@@ -3,5 +3,6 @@ pub mod StartText
 pub mod StartReading
 pub mod StartSaid
 pub mod StartMade
+pub mod StartState
 pub mod StartRefusal
 pub mod StartLaws

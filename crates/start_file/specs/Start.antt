@@ -1,7 +1,7 @@
 -- The text that a run starts from, in this project's format: lines of words, each line saying one thing.
-use Rattle.std.specs.Prelude.{◌≡◌, ℕ, ◌/◌, ◌%◌, ◌<◌, ◌^◌, Bool, if◌then◌else◌, List, [], ◌∷◌, map, codes, All}
-use Rattle.wx_base.specs.Decimal.{decimal}
-use Rattle.wx_base.specs.Hexadecimal.{hex_digit, hex_word}
+use Rattle.std.specs.Prelude.{◌≡◌, ℕ, ◌<◌, ◌^◌, Bool, if◌then◌else◌, List, [], ◌∷◌, map, codes, All}
+use Rattle.wx_text.specs.Decimal.{decimal}
+use Rattle.wx_text.specs.Hexadecimal.{hex_byte, hex_word}
 use Rattle.wx_base.specs.declared.step.Flags.{Flags}
 use Rattle.start_file.specs.declared.start_item.Kind.{Kind}
 use Rattle.start_file.specs.declared.start_item.Kind.TheVariants as kind
@@ -27,10 +27,6 @@ name_of kind.Fill = codes "fill"
 name_of kind.Byte = codes "byte"
 name_of kind.Set = codes "set"
 name_of kind.End = codes "end"
-
--- a byte as two hexadecimal digits, the higher first
-unfoldable pub hex_byte : ℕ → List ℕ
-hex_byte byte = hex_digit (byte / 16) ∷ hex_digit (byte % 16) ∷ []
 
 -- a flag as `0` or `1`
 abbrev pub flag_digit : Bool → ℕ

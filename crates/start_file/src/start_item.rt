@@ -1,5 +1,5 @@
-use std::marker::Model;
 use wx_base::Flags;
+use wx_text::List;
 
 /// The kinds of lines of a start text, in the order in which they come.
 #[derive(Clone, Copy, Debug, PartialEq, Eq)]
@@ -21,36 +21,7 @@ pub enum Kind {
 }
 
 /// Numbers of cache lines: contracts see the list.
-#[derive(Debug, Drop)]
-pub struct LineNumbers {
-    list: Vec<u32>,
-}
-
-impl Model for LineNumbers {
-    ghost use Rattle.std.specs.Prelude.{ℕ, List};
-
-    ghost Value = { List ℕ };
-
-    ghost view = { λ l. l.list.items };
-}
-
-impl LineNumbers {
-    ghost use Rattle.std.specs.Prelude.{◌≡◌};
-
-    /// These numbers.
-    pub fn new(list: Vec<u32>) -> LineNumbers
-        ensures { result ≡ list.items }
-    {
-        LineNumbers { list }
-    }
-
-    /// The numbers.
-    pub fn as_slice(&self) -> &[u32]
-        ensures { result.now ≡ self.now }
-    {
-        &self.list
-    }
-}
+pub type LineNumbers = List<u32>;
 
 /// What a line of a start text says.
 #[derive(Debug, Drop)]

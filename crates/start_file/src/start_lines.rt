@@ -2,23 +2,25 @@
 
 ghost use Rattle.std.specs.Prelude.{◌≡◌, ◌≢◌, ℕ, ◌<◌, ◌^◌, List, map, All, Some, IfSome, IfOk};
 ghost use Rattle.wx_base.specs.declared.step.Flags.{Flags as FlagValues};
-ghost use Rattle.wx_base.specs.Hexadecimal.{hex_word};
+ghost use Rattle.wx_text.specs.Hexadecimal.{hex_word};
 ghost use Rattle.start_file.specs.declared.start_item.Item.{Item as ItemValue};
 ghost use Rattle.start_file.specs.declared.start_item.Item.TheVariants as item;
 ghost use Rattle.start_file.specs.declared.start_item.Kind.TheVariants as kind;
 ghost use Rattle.start_file.specs.Start.{arguments, words_of, Fits, Says};
 
+use crate::start_flags::read_flags;
 use crate::start_item::{Item, Kind, LineNumbers};
-use crate::start_numbers::{read_byte, read_flags, read_number, read_word};
 use crate::start_words::{is, read_kind};
 use std::alloc::Global;
 use wx_base::NoMemory;
+use wx_text::{read_byte, read_number, read_word};
 
 /// What a line with these words says, `None` where it is no line of a start text.
 pub(crate) fn read_item(alloc: Global, words: &[&[u8]]) -> Result<Option<Item>, NoMemory>
     ensures sound { IfOk result (λ o. IfSome o (λ x. map (λ w. w.now) words.now ≡ words_of x)) }
     ensures fits { IfOk result (λ o. IfSome o Fits) }
-    ensures complete { (x : ItemValue) → Fits x → map (λ w. w.now) words.now ≡ words_of x → IfOk result (λ o. o ≡ Some x) }
+    ensures complete { (x : ItemValue) → Fits x → map (λ w. w.now) words.now ≡ words_of x → IfOk result
+        (λ o. o ≡ Some x) }
 {
     let Some((name, words)) = words.split_first() else {
         return Ok(None);
@@ -33,7 +35,8 @@ pub(crate) fn read_item(alloc: Global, words: &[&[u8]]) -> Result<Option<Item>, 
 fn read_arguments(alloc: Global, kind: Kind, words: &[&[u8]]) -> Result<Option<Item>, NoMemory>
     ensures sound { IfOk result (λ o. IfSome o (λ x. Says kind (map (λ w. w.now) words.now) x)) }
     ensures fits { IfOk result (λ o. IfSome o Fits) }
-    ensures complete { (x : ItemValue) → Fits x → Says kind (map (λ w. w.now) words.now) x → IfOk result (λ o. o ≡ Some x) }
+    ensures complete { (x : ItemValue) → Fits x → Says kind (map (λ w. w.now) words.now) x → IfOk result
+        (λ o. o ≡ Some x) }
 {
     match kind {
         Kind::Head => Ok(read_head(words)),
@@ -74,7 +77,8 @@ fn read_end(words: &[&[u8]]) -> Option<Item>
 fn read_register(words: &[&[u8]]) -> Option<Item>
     ensures sound { IfSome result (λ x. Says kind.Register (map (λ w. w.now) words.now) x) }
     ensures fits { IfSome result Fits }
-    ensures complete { (number value : ℕ) → number < 2 ^ 32 → value < 2 ^ 32 → map (λ w. w.now) words.now ≡ arguments (item.Register number value) → result ≡ Some (item.Register number value) }
+    ensures complete { (number value : ℕ) → number < 2 ^ 32 → value < 2 ^ 32 → map (λ w. w.now) words.now
+        ≡ arguments (item.Register number value) → result ≡ Some (item.Register number value) }
 {
     let [number, value] = words else {
         return None;
@@ -87,7 +91,8 @@ fn read_register(words: &[&[u8]]) -> Option<Item>
 fn read_flag_line(words: &[&[u8]]) -> Option<Item>
     ensures sound { IfSome result (λ x. Says kind.Flags (map (λ w. w.now) words.now) x) }
     ensures fits { IfSome result Fits }
-    ensures complete { (flags : FlagValues) → map (λ w. w.now) words.now ≡ arguments (item.Flags flags) → result ≡ Some (item.Flags flags) }
+    ensures complete { (flags : FlagValues) → map (λ w. w.now) words.now ≡ arguments (item.Flags flags) → result
+        ≡ Some (item.Flags flags) }
 {
     let [digits] = words else {
         return None;
@@ -99,7 +104,8 @@ fn read_flag_line(words: &[&[u8]]) -> Option<Item>
 fn read_fill(words: &[&[u8]]) -> Option<Item>
     ensures sound { IfSome result (λ x. Says kind.Fill (map (λ w. w.now) words.now) x) }
     ensures fits { IfSome result Fits }
-    ensures complete { (byte : ℕ) → byte < 2 ^ 8 → map (λ w. w.now) words.now ≡ arguments (item.Fill byte) → result ≡ Some (item.Fill byte) }
+    ensures complete { (byte : ℕ) → byte < 2 ^ 8 → map (λ w. w.now) words.now ≡ arguments (item.Fill byte) → result
+        ≡ Some (item.Fill byte) }
 {
     let [byte] = words else {
         return None;
@@ -111,7 +117,8 @@ fn read_fill(words: &[&[u8]]) -> Option<Item>
 fn read_byte_line(words: &[&[u8]]) -> Option<Item>
     ensures sound { IfSome result (λ x. Says kind.Byte (map (λ w. w.now) words.now) x) }
     ensures fits { IfSome result Fits }
-    ensures complete { (address byte : ℕ) → address < 2 ^ 32 → byte < 2 ^ 8 → map (λ w. w.now) words.now ≡ arguments (item.Byte address byte) → result ≡ Some (item.Byte address byte) }
+    ensures complete { (address byte : ℕ) → address < 2 ^ 32 → byte < 2 ^ 8 → map (λ w. w.now) words.now
+        ≡ arguments (item.Byte address byte) → result ≡ Some (item.Byte address byte) }
 {
     let [address, byte] = words else {
         return None;
@@ -124,7 +131,8 @@ fn read_byte_line(words: &[&[u8]]) -> Option<Item>
 fn read_set(alloc: Global, words: &[&[u8]]) -> Result<Option<Item>, NoMemory>
     ensures sound { IfOk result (λ o. IfSome o (λ x. Says kind.Set (map (λ w. w.now) words.now) x)) }
     ensures fits { IfOk result (λ o. IfSome o Fits) }
-    ensures complete { (set : ℕ) (lines : List ℕ) → set < 2 ^ 32 → All (λ l. l < 2 ^ 32) lines → map (λ w. w.now) words.now ≡ arguments (item.Set set lines) → IfOk result (λ o. o ≡ Some (item.Set set lines)) }
+    ensures complete { (set : ℕ) (lines : List ℕ) → set < 2 ^ 32 → All (λ l. l < 2 ^ 32) lines → map
+        (λ w. w.now) words.now ≡ arguments (item.Set set lines) → IfOk result (λ o. o ≡ Some (item.Set set lines)) }
 {
     let Some((set, words)) = words.split_first() else {
         return Ok(None);
@@ -141,7 +149,8 @@ fn read_set(alloc: Global, words: &[&[u8]]) -> Result<Option<Item>, NoMemory>
 fn read_line_numbers(alloc: Global, words: &[&[u8]]) -> Result<Option<LineNumbers>, NoMemory>
     ensures sound { IfOk result (λ o. IfSome o (λ lines. map (λ w. w.now) words.now ≡ map hex_word lines)) }
     ensures fits { IfOk result (λ o. IfSome o (λ lines. All (λ l. l < 2 ^ 32) lines)) }
-    ensures complete { (lines : List ℕ) → All (λ l. l < 2 ^ 32) lines → map (λ w. w.now) words.now ≡ map hex_word lines → IfOk result (λ o. o ≡ Some lines) }
+    ensures complete { (lines : List ℕ) → All (λ l. l < 2 ^ 32) lines → map (λ w. w.now) words.now ≡ map hex_word lines
+        → IfOk result (λ o. o ≡ Some lines) }
 {
     let mut list = Vec::new(alloc);
     for word in words {

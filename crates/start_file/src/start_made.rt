@@ -100,8 +100,10 @@ pub(crate) fn memory(alloc: Global, items: &[Item]) -> Result<Memory, NoMemory>
 /// Writes the byte that a line tells.
 fn write_byte(memory: &mut Memory, item: &Item) -> Result<(), NoMemory>
     ensures fill { memory.new.fill ≡ memory.old.fill }
-    ensures bytes { OnOk result ((at : ℕ) → byte_at memory.new at ≡ unwrap_or (of_byte at item.now) (byte_at memory.old at)) }
-    ensures written { OnOk result ((at : ℕ) → is_written memory.new at ≡ (is_some (of_byte at item.now) || is_written memory.old at)) }
+    ensures bytes { OnOk result ((at : ℕ) → byte_at memory.new at
+        ≡ unwrap_or (of_byte at item.now) (byte_at memory.old at)) }
+    ensures written { OnOk result ((at : ℕ) → is_written memory.new at
+        ≡ (is_some (of_byte at item.now) || is_written memory.old at)) }
 {
     match item {
         Item::Byte { address, byte } => memory.write(*address, *byte),
@@ -136,7 +138,8 @@ fn set_lists(alloc: Global, items: &[Item], shape: Shape) -> Result<Vec<Vec<u32>
 fn fill_lists(alloc: Global, lists: &mut [Vec<u32>], items: &[Item]) -> Result<(), AllocError>
     requires names { All (NamesList (length lists.old)) items.now }
     requires empty { All (λ list. list.items ≡ []) lists.old }
-    ensures { OnOk result ((s : ℕ) → s < length lists.old → slice_index_or (lines_of lists.new) s [] ≡ unwrap_or (said (of_set s) items.now) []) }
+    ensures { OnOk result ((s : ℕ) → s < length lists.old → slice_index_or (lines_of lists.new) s []
+        ≡ unwrap_or (said (of_set s) items.now) []) }
 {
     for item in items {
         set_list(alloc, lists, item)?;
@@ -147,7 +150,8 @@ fn fill_lists(alloc: Global, lists: &mut [Vec<u32>], items: &[Item]) -> Result<(
 /// Sets the list that a line tells.
 fn set_list(alloc: Global, lists: &mut [Vec<u32>], item: &Item) -> Result<(), AllocError>
     requires { NamesList (length lists.old) item.now }
-    ensures { OnOk result ((s : ℕ) → s < length lists.old → slice_index_or (lines_of lists.new) s [] ≡ unwrap_or (of_set s item.now) (slice_index_or (lines_of lists.old) s [])) }
+    ensures { OnOk result ((s : ℕ) → s < length lists.old → slice_index_or (lines_of lists.new) s []
+        ≡ unwrap_or (of_set s item.now) (slice_index_or (lines_of lists.old) s [])) }
 {
     if let Item::Set { set, lines } = item {
         lists[*set as usize] = lines.as_slice().to_vec(alloc)?;

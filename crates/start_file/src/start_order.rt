@@ -74,8 +74,10 @@ pub(crate) fn read_next(
     ensures sound { IfOk result (λ o. IfSome o (λ x. words_in line.now ≡ words_of x)) }
     ensures proper { IfOk result (λ o. IfSome o (λ x. IsProper image.now shape x)) }
     ensures follows { IfOk result (λ o. IfSome o (λ x. Follows items.now x)) }
-    ensures alone { IfOk result (λ o. IfSome o (λ x. (other : ItemValue) → Fits other → words_of x ≡ words_of other → other ≡ x)) }
-    ensures complete { (x : ItemValue) → IsProper image.now shape x → Follows items.now x → words_in line.now ≡ words_of x → IfOk result (λ o. o ≡ Some x) }
+    ensures alone { IfOk result
+        (λ o. IfSome o (λ x. (other : ItemValue) → Fits other → words_of x ≡ words_of other → other ≡ x)) }
+    ensures complete { (x : ItemValue) → IsProper image.now shape x → Follows items.now x → words_in line.now
+        ≡ words_of x → IfOk result (λ o. o ≡ Some x) }
 {
     let words = split(alloc, line, b' ')?;
     let Some(item) = read_item(alloc, words.as_slice())? else {

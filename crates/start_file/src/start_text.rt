@@ -21,7 +21,8 @@ pub(crate) fn read_items(
     shape: Shape,
 ) -> Result<Vec<Item>, StartError>
     ensures text { IfOk result (λ items. IsStartText image.now shape bytes.now items.items) }
-    ensures once { IfOk result (λ items. (others : List ItemValue) → IsStartText image.now shape bytes.now others → others ≡ items.items) }
+    ensures once { IfOk result
+        (λ items. (others : List ItemValue) → IsStartText image.now shape bytes.now others → others ≡ items.items) }
     ensures refused { IfErr result (λ e. IsTextRefusal image.now shape bytes.now e) }
 {
     let parts = split(alloc, bytes, b'\n')?;

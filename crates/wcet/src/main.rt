@@ -10,13 +10,16 @@ use wx_base::{HostSink, HostStore};
 /// The status where memory is wanting for the words themselves.
 const STARVED: u8 = 9;
 
+/// The status where that cannot be said.
+const UNWRITTEN: u8 = 3;
+
 fn main(rt: HostRuntime) -> ExitCode {
     let status = match words(&rt) {
         Ok(words) => run(&rt, words.as_slice()),
-        Err(error) if error.kind() == io::ErrorKind::OutOfMemory => {
-            let _ = println!(rt; "memory");
-            STARVED
-        }
+        Err(error) if error.kind() == io::ErrorKind::OutOfMemory => match println!(rt; "memory") {
+            Ok(()) => STARVED,
+            Err(_) => UNWRITTEN,
+        },
         // A word that is no text fits no form.
         Err(_) => run(&rt, &[]),
     };

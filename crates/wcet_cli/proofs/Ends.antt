@@ -1,408 +1,312 @@
 -- What each status of a call says.
-use Rattle.std.proofs.Common.{◌≡◌, ◌⊎◌, ℕ, ◌<◌, inl, inr, List, [], ◌∷◌, ◌++◌, Option, refl, sym, ap, ◌∙◌, subst, arith}
-use Rattle.std.specs.List.{AllByRecursion}
+use Rattle.std.proofs.Common.{◌≡◌, ◌⊎◌, ℕ, inl, inr, List, [], ◌∷◌, ◌++◌, Option, refl, sym, ap, ◌∙◌, subst, arith}
 use Rattle.wx_base.specs.Machine.{m1, IsMachine}
-use Rattle.wx_base.specs.Outside.{Contents, Rose, IsMissing, IsCut}
+use Rattle.wx_host.specs.Outside.{Contents, Rose}
 use Rattle.pipe_time.specs.Order.{WorseCompletesNoEarlier}
-use Rattle.wcet_cli.specs.declared.reply.Reply.{Reply}
-use Rattle.wcet_cli.specs.declared.reply.Reply.TheVariants as reply
-use Rattle.wcet_cli.specs.Reply.{run_status, status_of, text_of}
-use Rattle.wcet_cli.specs.Command.{IsFlat, FitsForm}
-use Rattle.wcet_cli.specs.Call.{FlatCause, HasCause, NoForm, OfFlat, OfRun, Took, IsAnswer, Says, Starves, HandsOver, Whole, Unwritten, Starved, AnswersBound, ReportsRun, RefusesImage, RefusesRun, AreNamed, by_flat, by_run, IsReadUpTo, ReadsNothing, IsTooLarge}
-use Rattle.wx_base.specs.Run.{run_of}
+use Rattle.flow_graph.specs.Program.{rules_of}
 use Rattle.run_machine.specs.declared.report.End.{End}
 use Rattle.run_machine.specs.declared.report.End.TheVariants as end
-use Rattle.run_machine.specs.Report.{report_of, start_of}
-use Rattle.wcet_cli.specs.declared.files.RunFiles.{RunFiles}
-use Rattle.wcet_cli.specs.Files.{RunWords, IsContent, IsUnread, failed, missing, long, IsSomeUnread, now, later, AreContents, files_of}
-use Rattle.wcet_cli.specs.RunCommand.{IsRun, IsRunReply, bad_image, bad_facts, bad_machine, no_entry, bad_start, bad_flow, ran, unread, replied}
+use Rattle.wcet_front.specs.declared.inputs.InputTexts.{InputTexts}
+use Rattle.wcet_front.specs.declared.reply.Reply.{Reply}
+use Rattle.wcet_front.specs.declared.reply.Reply.TheVariants as reply
+use Rattle.wcet_front.specs.Reply.{run_status, status_of, text_of, IsSaid, InFull, Wanting}
+use Rattle.wcet_front.specs.Files.{Reads, AsksFor, AreContents, AreRead, IsUnread, failed, missing, long, IsFirstUnread, IsCutShort, ReadsAndReplies, unread, replied}
+use Rattle.wcet_front.specs.Handing.{Took, HandsOver, Whole, Unwritten, Starved}
+use Rattle.wcet_front.specs.Inputs.{IsInputsRefusal}
+use Rattle.wcet_front.specs.Stages.{refused, passed}
+use Rattle.wcet_cli.specs.Words.{IsFlat, RunWords, IsRun}
+use Rattle.wcet_cli.specs.FlatCommand.{FlatReply, bound, leaves_code, unsupported, AnswersBound}
+use Rattle.wcet_cli.specs.RunCommand.{run_files, report_in, RunReply, ReportsRun}
+use Rattle.wcet_cli.specs.Commands.{Form, Flat, Run, IsForm, FitsForm, files_of, Replies, AreNamed, by_form, by_none}
+use Rattle.wcet_cli.specs.Call.{HasCause, NoForm, OfForm, IsStarved, IsAnswer, Says, Starves, Refuses, ReadsNothing, IsTooLarge}
+use Rattle.wcet_cli.proofs.Handed.{not_three, three_rose}
 use Rattle.wcet_cli.proofs.Running.{every_run_ends_within}
 
--- how a call ended, as the answer and its handing over say
-abbrev pub Ended : Option Contents → ℕ → ℕ → List (List ℕ) → Option (List ℕ) → Option (List ℕ) → ℕ → ℕ → ℕ → Type 0
-Ended holds before after words taken taken' faults faults' ends =
-    (status : ℕ) × (text : List ℕ) × IsAnswer holds before after words status text × HandsOver taken taken' faults faults' status text ends
+append_nil : {A : Type 0} (xs : List A) → xs ≡ xs ++ []
+append_nil [] = refl
+append_nil (x ∷ xs) = ap (λ ys. x ∷ ys) (append_nil xs)
 
--- a reply that was said in full
-record Said (holds : Option Contents) (before after : ℕ) (words : List (List ℕ)) (taken taken' : Option (List ℕ)) (ends : ℕ) : Type 0 where
-  said : Reply
-  cause : HasCause holds before after words said
-  status : ends ≡ status_of said
-  took : Took taken taken' (text_of said)
-
-said_in_full : (holds : Option Contents) (before after : ℕ) (words : List (List ℕ)) (taken taken' : Option (List ℕ)) (faults faults' ends status : ℕ) (text : List ℕ) → IsAnswer holds before after words status text → HandsOver taken taken' faults faults' status text ends → (ends ≡ 3 → ⊥) → (ends ≡ 9 → ⊥) → Said holds before after words taken taken' ends
-said_in_full holds before after words taken taken' faults faults' ends status text (Says said cause s t) (Whole e took same) three nine =
-    record { said = said; cause = cause; status = e ∙ s; took = subst (Took taken taken') t took }
-said_in_full holds before after words taken taken' faults faults' ends status text (Starves s t) (Whole e took same) three nine = absurd (nine (e ∙ s))
-said_in_full holds before after words taken taken' faults faults' ends status text answer (Unwritten e took rose) three nine = absurd (three e)
-said_in_full holds before after words taken taken' faults faults' ends status text answer (Starved e took same) three nine = absurd (nine e)
-
-in_full : (holds : Option Contents) (before after : ℕ) (words : List (List ℕ)) (taken taken' : Option (List ℕ)) (faults faults' ends : ℕ) → Ended holds before after words taken taken' faults faults' ends → (ends ≡ 3 → ⊥) → (ends ≡ 9 → ⊥) → Said holds before after words taken taken' ends
-in_full holds before after words taken taken' faults faults' ends (status, text, answer, hands) three nine =
-    said_in_full holds before after words taken taken' faults faults' ends status text answer hands three nine
-
--- the statuses of the replies to `flat`, to files of which one is not read, and to the contents of the files of `run`
-data FlatStatus (status : ℕ) : Type 0 where
-  flat_bound : status ≡ 0 → FlatStatus status
-  flat_unread : status ≡ 2 → FlatStatus status
-  flat_refused : status ≡ 4 → FlatStatus status
-  flat_long : status ≡ 10 → FlatStatus status
-
-data UnreadStatus (status : ℕ) : Type 0 where
-  not_read : status ≡ 2 → UnreadStatus status
-  not_short : status ≡ 10 → UnreadStatus status
-
-data RunStatus (status : ℕ) : Type 0 where
-  run_reports : status ≡ 0 → RunStatus status
-  run_image : status ≡ 4 → RunStatus status
-  run_facts : status ≡ 5 → RunStatus status
-  run_machine : status ≡ 6 → RunStatus status
-  run_breaks : status ≡ 11 → RunStatus status
-  run_start : status ≡ 12 → RunStatus status
-
-flat_status : (holds : Option Contents) (before after : ℕ) (name : List ℕ) (said : Reply) → FlatCause holds before after name said → FlatStatus (status_of said)
-flat_status holds before after name (reply.Bound cycles) cause = flat_bound refl
-flat_status holds before after name (reply.Unreadable named) cause = flat_unread refl
-flat_status holds before after name (reply.Missing named) cause = flat_unread refl
-flat_status holds before after name (reply.LeavesCode addr) cause = flat_refused refl
-flat_status holds before after name (reply.Unsupported addr word) cause = flat_refused refl
-flat_status holds before after name (reply.LongFile named) cause = flat_long refl
-flat_status holds before after name reply.Usage cause = absurd cause
-flat_status holds before after name (reply.BadImage e) cause = absurd cause
-flat_status holds before after name (reply.BadFacts e) cause = absurd cause
-flat_status holds before after name (reply.BadMachine e) cause = absurd cause
-flat_status holds before after name (reply.NoEntry n) cause = absurd cause
-flat_status holds before after name (reply.BadStart e) cause = absurd cause
-flat_status holds before after name (reply.BadFlow e) cause = absurd cause
-flat_status holds before after name (reply.Ran report) cause = absurd cause
-
--- a file that is not read, and those before it that are
-record Found (holds : Option Contents) (before after : ℕ) (names : List (List ℕ)) (said : Reply) : Type 0 where
-  front : List (List ℕ)
-  name : List ℕ
-  rest : List (List ℕ)
-  names_are : names ≡ front ++ name ∷ rest
-  whole : AllByRecursion (λ n. (bytes : List ℕ) × IsContent holds n bytes) front
-  unread_is : IsUnread holds before after name said
-
-found : (holds : Option Contents) (before after : ℕ) (names : List (List ℕ)) (said : Reply) → IsSomeUnread holds before after names said → Found holds before after names said
-found holds before after [] said is = elim is [ ]
-found holds before after (name ∷ names) said (now is) = record { front = []; name = name; rest = names; names_are = refl; whole = tt; unread_is = is }
-found holds before after (name ∷ names) said (later bytes content is) =
-    let f = found holds before after names said is in
-    record { front = name ∷ f.front; name = f.name; rest = f.rest; names_are = ap (λ ns. name ∷ ns) f.names_are; whole = ((bytes, content), f.whole); unread_is = f.unread_is }
-
-unread_status : (holds : Option Contents) (before after : ℕ) (name : List ℕ) (said : Reply) → IsUnread holds before after name said → UnreadStatus (status_of said)
-unread_status holds before after name said (failed rose) = not_read refl
-unread_status holds before after name said (missing none) = not_read refl
-unread_status holds before after name said (long bytes cut) = not_short refl
-
-end_status : (e : End) → RunStatus (run_status e)
-end_status end.Ended = run_reports refl
-end_status end.Limit = run_reports refl
-end_status (end.Stopped why address) = run_reports refl
-end_status (end.Breaks fact address) = run_breaks refl
-
-reply_status : (files : RunFiles) (w : RunWords) (said : Reply) → IsRunReply files w said → RunStatus (status_of said)
-reply_status files w said (bad_image first) = run_image refl
-reply_status files w said (bad_facts image is cause) = run_facts refl
-reply_status files w said (bad_machine image facts are first) = run_machine refl
-reply_status files w said (no_entry image facts machine up named none) = run_image refl
-reply_status files w said (bad_start image facts machine entry placed refusal other) = run_start refl
-reply_status files w said (bad_flow image facts machine entry begin ready first) = run_image refl
-reply_status files w said (ran image facts machine entry begin rules ready none are) = end_status (report_of (run_of machine image rules entry (start_of image begin) w.steps)).end
-
--- a status is none of these
-flat_is_not : (s status : ℕ) → s ≡ status → FlatStatus status → (s ≡ 0 → ⊥) → (s ≡ 2 → ⊥) → (s ≡ 4 → ⊥) → (s ≡ 10 → ⊥) → ⊥
-flat_is_not s status e (flat_bound f) zero two four ten = zero (e ∙ f)
-flat_is_not s status e (flat_unread f) zero two four ten = two (e ∙ f)
-flat_is_not s status e (flat_refused f) zero two four ten = four (e ∙ f)
-flat_is_not s status e (flat_long f) zero two four ten = ten (e ∙ f)
-
-unread_is_not : (s status : ℕ) → s ≡ status → UnreadStatus status → (s ≡ 2 → ⊥) → (s ≡ 10 → ⊥) → ⊥
-unread_is_not s status e (not_read f) two ten = two (e ∙ f)
-unread_is_not s status e (not_short f) two ten = ten (e ∙ f)
-
-some_unread_is_not : (s : ℕ) (holds : Option Contents) (before after : ℕ) (names : List (List ℕ)) (said : Reply) → s ≡ status_of said → IsSomeUnread holds before after names said → (s ≡ 2 → ⊥) → (s ≡ 10 → ⊥) → ⊥
-some_unread_is_not s holds before after names said e is two ten =
-    let f = found holds before after names said is in unread_is_not s (status_of said) e (unread_status holds before after f.name said f.unread_is) two ten
-
-run_is_not : (s status : ℕ) → s ≡ status → RunStatus status → (s ≡ 0 → ⊥) → (s ≡ 4 → ⊥) → (s ≡ 5 → ⊥) → (s ≡ 6 → ⊥) → (s ≡ 11 → ⊥) → (s ≡ 12 → ⊥) → ⊥
-run_is_not s status e (run_reports f) zero four five six eleven twelve = zero (e ∙ f)
-run_is_not s status e (run_image f) zero four five six eleven twelve = four (e ∙ f)
-run_is_not s status e (run_facts f) zero four five six eleven twelve = five (e ∙ f)
-run_is_not s status e (run_machine f) zero four five six eleven twelve = six (e ∙ f)
-run_is_not s status e (run_breaks f) zero four five six eleven twelve = eleven (e ∙ f)
-run_is_not s status e (run_start f) zero four five six eleven twelve = twelve (e ∙ f)
-
-usage_is : (s : ℕ) (said : Reply) → said ≡ reply.Usage → s ≡ status_of said → s ≡ 1
-usage_is s said is e = e ∙ ap status_of is
-
-bound_said : (holds : Option Contents) (before after : ℕ) (words : List (List ℕ)) (taken taken' : Option (List ℕ)) (name : List ℕ) (said : Reply) → IsMachine m1 → WorseCompletesNoEarlier → IsFlat words name → FlatCause holds before after name said → 0 ≡ status_of said → Took taken taken' (text_of said) → AnswersBound holds words taken taken'
-bound_said holds before after words taken taken' name (reply.Bound cycles) ok law form (bytes, program, content, is, cycles_are) s took = record {
-  name = name;
-  bytes = bytes;
-  program = program;
-  form = form;
-  content = content;
-  program_is = is;
-  safe = every_run_ends_within m1 bytes program ok content.0 law is;
-  took = subst (λ n. Took taken taken' (text_of (reply.Bound n))) cycles_are took;
+-- the files that a reply asked for begin those of the words
+asked_front : (reads : Reads) (words : List (List ℕ)) (said : Reply) → HasCause reads words said → IsStarved reads words
+asked_front reads words said (NoForm unfit asked e) = record {
+  names = [];
+  named = by_none unfit refl;
+  cut = record { front = []; rest = []; names_are = refl; asked = asked };
 }
-bound_said holds before after words taken taken' name reply.Usage ok law form cause s took = absurd cause
-bound_said holds before after words taken taken' name (reply.Unreadable named) ok law form cause s took = absurd (omega arith)
-bound_said holds before after words taken taken' name (reply.Missing named) ok law form cause s took = absurd (omega arith)
-bound_said holds before after words taken taken' name (reply.LeavesCode addr) ok law form cause s took = absurd (omega arith)
-bound_said holds before after words taken taken' name (reply.Unsupported addr word) ok law form cause s took = absurd (omega arith)
-bound_said holds before after words taken taken' name (reply.LongFile named) ok law form cause s took = absurd (omega arith)
-bound_said holds before after words taken taken' name (reply.BadImage e) ok law form cause s took = absurd cause
-bound_said holds before after words taken taken' name (reply.BadFacts e) ok law form cause s took = absurd cause
-bound_said holds before after words taken taken' name (reply.BadMachine e) ok law form cause s took = absurd cause
-bound_said holds before after words taken taken' name (reply.NoEntry n) ok law form cause s took = absurd cause
-bound_said holds before after words taken taken' name (reply.BadStart e) ok law form cause s took = absurd cause
-bound_said holds before after words taken taken' name (reply.BadFlow e) ok law form cause s took = absurd cause
-bound_said holds before after words taken taken' name (reply.Ran report) ok law form cause s took = absurd cause
-
--- a run's report with its status
-run_said : (holds : Option Contents) (words : List (List ℕ)) (taken taken' : Option (List ℕ)) (s : ℕ) (w : RunWords) (files : RunFiles) (said : Reply) → (s ≡ 4 → ⊥) → (s ≡ 5 → ⊥) → (s ≡ 6 → ⊥) → (s ≡ 12 → ⊥)
-    → IsRun words w → AreContents holds w files → IsRunReply files w said → s ≡ status_of said → Took taken taken' (text_of said) → ReportsRun holds words taken taken' s
-run_said holds words taken taken' s w files said four five six twelve form contents (bad_image first) e took = absurd (four e)
-run_said holds words taken taken' s w files said four five six twelve form contents (bad_facts image is cause) e took = absurd (five e)
-run_said holds words taken taken' s w files said four five six twelve form contents (bad_machine image facts are first) e took = absurd (six e)
-run_said holds words taken taken' s w files said four five six twelve form contents (no_entry image facts machine up named none) e took = absurd (four e)
-run_said holds words taken taken' s w files said four five six twelve form contents (bad_start image facts machine entry placed refusal other) e took = absurd (twelve e)
-run_said holds words taken taken' s w files said four five six twelve form contents (bad_flow image facts machine entry begin ready first) e took = absurd (four e)
-run_said holds words taken taken' s w files said four five six twelve form contents (ran image facts machine entry begin rules ready none are) e took = record {
-  w = w;
-  files = files;
-  image = image;
-  facts = facts;
-  machine = machine;
-  entry = entry;
-  begin = begin;
-  rules = rules;
-  form = form;
-  contents = contents;
-  ready = ready;
-  sound = none;
-  judged = are;
-  took = took;
-  ends = e;
+asked_front reads words said (OfForm form is (unread f)) =
+    let come = f.come in
+    record {
+      names = files_of form;
+      named = by_form form is refl;
+      cut = record {
+        front = come.front ++ f.name ∷ [];
+        rest = come.rest;
+        names_are = come.names_are ∙ split come.front f.name come.rest;
+        asked = come.asked;
+      };
+    }
+  where
+    split : (front : List (List ℕ)) (name : List ℕ) (rest : List (List ℕ)) → front ++ name ∷ rest ≡ (front ++ name ∷ []) ++ rest
+    split [] name rest = refl
+    split (x ∷ front) name rest = ap (λ xs. x ∷ xs) (split front name rest)
+asked_front reads words said (OfForm form is (replied contents are h)) = record {
+  names = files_of form;
+  named = by_form form is refl;
+  cut = record { front = files_of form; rest = []; names_are = append_nil (files_of form); asked = are.asked };
 }
 
-answered : (holds : Option Contents) (before after : ℕ) (words : List (List ℕ)) (taken taken' : Option (List ℕ)) (said : Reply) → IsMachine m1 → WorseCompletesNoEarlier → HasCause holds before after words said → 0 ≡ status_of said → Took taken taken' (text_of said)
-    → AnswersBound holds words taken taken' ⊎ ReportsRun holds words taken taken' 0
-answered holds before after words taken taken' said ok law (NoForm none e) s took = absurd (omega (arith, usage_is 0 said e s))
-answered holds before after words taken taken' said ok law (OfFlat name form cause) s took = inl (bound_said holds before after words taken taken' name said ok law form cause s took)
-answered holds before after words taken taken' said ok law (OfRun w form (unread is)) s took = absurd (some_unread_is_not 0 holds before after (files_of w) said s is (λ h. omega arith) (λ h. omega arith))
-answered holds before after words taken taken' said ok law (OfRun w form (replied files contents cause)) s took =
-    inr (run_said holds words taken taken' 0 w files said (λ h. omega arith) (λ h. omega arith) (λ h. omega arith) (λ h. omega arith) form contents cause s took)
+-- a reply with its cause is said in full, or memory is wanting
+pub answer_of : (reads : Reads) (words : List (List ℕ)) (said : Reply) (status : ℕ) (text : List ℕ) → HasCause reads words said → IsSaid said status text → IsAnswer reads words status text
+answer_of reads words said status text cause (InFull s t) = Says said cause s t
+answer_of reads words said status text cause (Wanting s t) = Starves (asked_front reads words said cause) s t
 
--- status 0
-pub at_zero : (holds : Option Contents) (before after : ℕ) (words : List (List ℕ)) (taken taken' : Option (List ℕ)) (faults faults' ends : ℕ) → IsMachine m1 → WorseCompletesNoEarlier → Ended holds before after words taken taken' faults faults' ends → ends ≡ 0 → AnswersBound holds words taken taken' ⊎ ReportsRun holds words taken taken' 0
-at_zero holds before after words taken taken' faults faults' ends ok law ended e =
-    let said = in_full holds before after words taken taken' faults faults' ends ended (λ h. omega arith) (λ h. omega arith) in
-    answered holds before after words taken taken' said.said ok law said.cause (sym e ∙ said.status) said.took
+-- the statuses of refusals
+data IsRefusal (status : ℕ) : Type 0 where
+  of_image : status ≡ 4 → IsRefusal status
+  of_facts : status ≡ 5 → IsRefusal status
+  of_machine : status ≡ 6 → IsRefusal status
+  of_start : status ≡ 12 → IsRefusal status
 
-broken : (holds : Option Contents) (before after : ℕ) (words : List (List ℕ)) (taken taken' : Option (List ℕ)) (said : Reply) → HasCause holds before after words said → 11 ≡ status_of said → Took taken taken' (text_of said) → ReportsRun holds words taken taken' 11
-broken holds before after words taken taken' said (NoForm none e) s took = absurd (omega (arith, usage_is 11 said e s))
-broken holds before after words taken taken' said (OfFlat name form cause) s took = absurd (flat_is_not 11 (status_of said) s (flat_status holds before after name said cause) (λ h. omega arith) (λ h. omega arith) (λ h. omega arith) (λ h. omega arith))
-broken holds before after words taken taken' said (OfRun w form (unread is)) s took = absurd (some_unread_is_not 11 holds before after (files_of w) said s is (λ h. omega arith) (λ h. omega arith))
-broken holds before after words taken taken' said (OfRun w form (replied files contents cause)) s took =
-    run_said holds words taken taken' 11 w files said (λ h. omega arith) (λ h. omega arith) (λ h. omega arith) (λ h. omega arith) form contents cause s took
+-- the statuses of a report
+data IsReported (status : ℕ) : Type 0 where
+  in_time : status ≡ 0 → IsReported status
+  breaks : status ≡ 11 → IsReported status
 
--- status 11
-pub at_eleven : (holds : Option Contents) (before after : ℕ) (words : List (List ℕ)) (taken taken' : Option (List ℕ)) (faults faults' ends : ℕ) → Ended holds before after words taken taken' faults faults' ends → ends ≡ 11 → ReportsRun holds words taken taken' 11
-at_eleven holds before after words taken taken' faults faults' ends ended e =
-    let said = in_full holds before after words taken taken' faults faults' ends ended (λ h. omega arith) (λ h. omega arith) in
-    broken holds before after words taken taken' said.said said.cause (sym e ∙ said.status) said.took
+-- what a reply with its cause says by its status
+data Means (reads : Reads) (words : List (List ℕ)) (taken taken' : Option (List ℕ)) (status : ℕ) : Type 0 where
+  misused : status ≡ 1 → ¬ FitsForm words → Means reads words taken taken' status
+  not_read : status ≡ 2 → ReadsNothing reads words → Means reads words taken taken' status
+  too_large : status ≡ 10 → IsTooLarge reads words → Means reads words taken taken' status
+  refuses : IsRefusal status → Refuses reads.holds words status → Means reads words taken taken' status
+  bounds : status ≡ 0 → AnswersBound reads.holds words taken taken' → Means reads words taken taken' status
+  reports : IsReported status → ReportsRun reads.holds words taken taken' status → Means reads words taken taken' status
 
-usage_said : (holds : Option Contents) (before after : ℕ) (words : List (List ℕ)) (said : Reply) → HasCause holds before after words said → 1 ≡ status_of said → FitsForm words → ⊥
-usage_said holds before after words said (NoForm none e) s form = none form
-usage_said holds before after words said (OfFlat name is cause) s form = flat_is_not 1 (status_of said) s (flat_status holds before after name said cause) (λ h. omega arith) (λ h. omega arith) (λ h. omega arith) (λ h. omega arith)
-usage_said holds before after words said (OfRun w is (unread u)) s form = some_unread_is_not 1 holds before after (files_of w) said s u (λ h. omega arith) (λ h. omega arith)
-usage_said holds before after words said (OfRun w is (replied files contents cause)) s form = run_is_not 1 (status_of said) s (reply_status files w said cause) (λ h. omega arith) (λ h. omega arith) (λ h. omega arith) (λ h. omega arith) (λ h. omega arith) (λ h. omega arith)
+module _ (law : WorseCompletesNoEarlier) (ok : IsMachine m1) (reads : Reads) (words : List (List ℕ)) (taken taken' : Option (List ℕ)) (ends : ℕ) where
+  -- a file is not read
+  file_means : (form : Form) (said : Reply) → IsForm words form → IsFirstUnread reads (files_of form) said → ends ≡ status_of said → Means reads words taken taken' ends
+  file_means form said is f e = by_cause f.unread
+    where
+      by_cause : IsUnread reads f.name said → Means reads words taken taken' ends
+      by_cause (failed rose g) = not_read (e ∙ ap status_of g) (record { names = files_of form; name = f.name; named = by_form form is refl; come = f.come; fault = inl rose })
+      by_cause (missing none g) = not_read (e ∙ ap status_of g) (record { names = files_of form; name = f.name; named = by_form form is refl; come = f.come; fault = inr none })
+      by_cause (long bytes cut g) = too_large (e ∙ ap status_of g) (record { names = files_of form; name = f.name; bytes = bytes; named = by_form form is refl; come = f.come; cut = cut })
 
--- status 1
-pub at_one : (holds : Option Contents) (before after : ℕ) (words : List (List ℕ)) (taken taken' : Option (List ℕ)) (faults faults' ends : ℕ) → Ended holds before after words taken taken' faults faults' ends → ends ≡ 1 → FitsForm words → ⊥
-at_one holds before after words taken taken' faults faults' ends ended e form =
-    let said = in_full holds before after words taken taken' faults faults' ends ended (λ h. omega arith) (λ h. omega arith) in
-    usage_said holds before after words said.said said.cause (sym e ∙ said.status) form
+  refusal : (form : Form) (contents : List (List ℕ)) (said : Reply) → IsForm words form → AreContents reads.holds (files_of form) contents → Replies form contents said → ends ≡ status_of said → IsRefusal ends → Means reads words taken taken' ends
+  refusal form contents said is are cause e r =
+      refuses r (record { form = form; contents = contents; said = said; is = is; are = are; cause = cause; ends = e })
 
--- the only file of `flat`
-flat_file : (holds : Option Contents) (words : List (List ℕ)) (name : List ℕ) → IsFlat words name → IsReadUpTo holds words name
-flat_file holds words name form = record { front = []; rest = []; named = by_flat name form; whole = tt }
+  flat_means : (code bytes : List ℕ) (said : Reply) → IsFlat words code → AreContents reads.holds (code ∷ []) (bytes ∷ []) → FlatReply bytes said → ends ≡ status_of said → Took taken taken' (text_of said) → Means reads words taken taken' ends
+  flat_means code bytes said is are (bound program p g) e took =
+      bounds (e ∙ ap status_of g) (record {
+        name = code;
+        bytes = bytes;
+        program = program;
+        form = is;
+        content = are.0;
+        program_is = p;
+        safe = every_run_ends_within m1 bytes program are.0.0 p ok law;
+        took = subst (λ r. Took taken taken' (text_of r)) g took;
+      })
+  flat_means code bytes said is are (leaves_code address cut g) e took =
+      refusal (Flat code) (bytes ∷ []) said is are (leaves_code address cut g) e (of_image (e ∙ ap status_of g))
+  flat_means code bytes said is are (unsupported address word f g) e took =
+      refusal (Flat code) (bytes ∷ []) said is are (unsupported address word f g) e (of_image (e ∙ ap status_of g))
 
--- the file of `run` that is not read
-run_file : (holds : Option Contents) (before after : ℕ) (words : List (List ℕ)) (w : RunWords) (said : Reply) → IsRun words w → (f : Found holds before after (files_of w) said) → IsReadUpTo holds words f.name
-run_file holds before after words w said form f = record { front = f.front; rest = f.rest; named = subst (AreNamed words) f.names_are (by_run w form); whole = f.whole }
+  inputs_status : (texts : InputTexts) (said : Reply) → IsInputsRefusal texts said → ends ≡ status_of said → IsRefusal ends
+  inputs_status texts said (refused h) e = of_image (e ∙ ap status_of h.2)
+  inputs_status texts said (passed image is (refused h)) e = of_facts (e ∙ ap status_of h.2)
+  inputs_status texts said (passed image is (passed facts are h)) e = of_machine (e ∙ ap status_of h.2)
 
-flat_unread_said : (holds : Option Contents) (before after : ℕ) (words : List (List ℕ)) (name : List ℕ) (said : Reply) → IsFlat words name → FlatCause holds before after name said → 2 ≡ status_of said → ReadsNothing holds before after words
-flat_unread_said holds before after words name (reply.Unreadable named) form cause s = record { name = name; come = flat_file holds words name form; fault = inl cause.1 }
-flat_unread_said holds before after words name (reply.Missing named) form cause s = record { name = name; come = flat_file holds words name form; fault = inr cause.1 }
-flat_unread_said holds before after words name (reply.Bound cycles) form cause s = absurd (omega arith)
-flat_unread_said holds before after words name reply.Usage form cause s = absurd cause
-flat_unread_said holds before after words name (reply.LeavesCode addr) form cause s = absurd (omega arith)
-flat_unread_said holds before after words name (reply.Unsupported addr word) form cause s = absurd (omega arith)
-flat_unread_said holds before after words name (reply.LongFile named) form cause s = absurd (omega arith)
-flat_unread_said holds before after words name (reply.BadImage e) form cause s = absurd cause
-flat_unread_said holds before after words name (reply.BadFacts e) form cause s = absurd cause
-flat_unread_said holds before after words name (reply.BadMachine e) form cause s = absurd cause
-flat_unread_said holds before after words name (reply.NoEntry n) form cause s = absurd cause
-flat_unread_said holds before after words name (reply.BadStart e) form cause s = absurd cause
-flat_unread_said holds before after words name (reply.BadFlow e) form cause s = absurd cause
-flat_unread_said holds before after words name (reply.Ran report) form cause s = absurd cause
+  end_status : (reached : End) → ends ≡ run_status reached → IsReported ends
+  end_status end.Ended e = in_time e
+  end_status end.Limit e = in_time e
+  end_status (end.Stopped why address) e = in_time e
+  end_status (end.Breaks fact address) e = breaks e
 
-run_unread_fault : (holds : Option Contents) (before after : ℕ) (name : List ℕ) (said : Reply) → IsUnread holds before after name said → 2 ≡ status_of said → Rose before after ⊎ IsMissing holds name
-run_unread_fault holds before after name said (failed rose) s = inl rose
-run_unread_fault holds before after name said (missing none) s = inr none
-run_unread_fault holds before after name said (long bytes cut) s = absurd (omega (arith, s))
+  run_means : (w : RunWords) (texts : InputTexts) (start : List ℕ) (said : Reply) → IsRun words w → AreContents reads.holds (run_files w) (texts.image ∷ texts.facts ∷ texts.machine ∷ start ∷ []) → RunReply w texts start said → ends ≡ status_of said → Took taken taken' (text_of said) → Means reads words taken taken' ends
+  run_means w texts start said is are (refused h) e took =
+      refusal (Run w) (texts.image ∷ texts.facts ∷ texts.machine ∷ start ∷ []) said is are (refused h) e (inputs_status texts said h e)
+  run_means w texts start said is are (passed inputs told (refused h)) e took =
+      refusal (Run w) (texts.image ∷ texts.facts ∷ texts.machine ∷ start ∷ []) said is are (passed inputs told (refused h)) e (of_image (e ∙ ap status_of h.3))
+  run_means w texts start said is are (passed inputs told (passed entry at (refused h))) e took =
+      refusal (Run w) (texts.image ∷ texts.facts ∷ texts.machine ∷ start ∷ []) said is are (passed inputs told (passed entry at (refused h))) e (of_start (e ∙ ap status_of h.3))
+  run_means w texts start said is are (passed inputs told (passed entry at (passed begin begins (refused h)))) e took =
+      refusal (Run w) (texts.image ∷ texts.facts ∷ texts.machine ∷ start ∷ []) said is are (passed inputs told (passed entry at (passed begin begins (refused h)))) e (of_image (e ∙ ap status_of h.2))
+  run_means w texts start said is are (passed inputs told (passed entry at (passed begin begins (passed program sound g)))) e took =
+      let rules = rules_of inputs.facts program in
+      let status : ends ≡ run_status (report_in inputs rules entry begin w.steps).end = e ∙ ap status_of g in
+      reports (end_status (report_in inputs rules entry begin w.steps).end status) (record {
+        w = w;
+        texts = texts;
+        start = start;
+        inputs = inputs;
+        entry = entry;
+        begin = begin;
+        rules = rules;
+        form = is;
+        contents = are;
+        told = told;
+        entered = at;
+        begins = begins;
+        sound = sound.sound;
+        judged = sound.is.rules;
+        took = subst (λ r. Took taken taken' (text_of r)) g took;
+        ends = status;
+      })
 
-unread_said : (holds : Option Contents) (before after : ℕ) (words : List (List ℕ)) (said : Reply) → HasCause holds before after words said → 2 ≡ status_of said → ReadsNothing holds before after words
-unread_said holds before after words said (NoForm none e) s = absurd (omega (arith, usage_is 2 said e s))
-unread_said holds before after words said (OfFlat name form cause) s = flat_unread_said holds before after words name said form cause s
-unread_said holds before after words said (OfRun w form (unread is)) s =
-    let f = found holds before after (files_of w) said is in
-    record { name = f.name; come = run_file holds before after words w said form f; fault = run_unread_fault holds before after f.name said f.unread_is s }
-unread_said holds before after words said (OfRun w form (replied files contents cause)) s = absurd (run_is_not 2 (status_of said) s (reply_status files w said cause) (λ h. omega arith) (λ h. omega arith) (λ h. omega arith) (λ h. omega arith) (λ h. omega arith) (λ h. omega arith))
+  form_means : (form : Form) (contents : List (List ℕ)) (said : Reply) → IsForm words form → AreContents reads.holds (files_of form) contents → Replies form contents said → ends ≡ status_of said → Took taken taken' (text_of said) → Means reads words taken taken' ends
+  form_means (Flat code) [] said is are h e took = absurd h
+  form_means (Flat code) (bytes ∷ []) said is are h e took = flat_means code bytes said is are h e took
+  form_means (Flat code) (bytes ∷ other ∷ contents) said is are h e took = absurd h
+  form_means (Run w) [] said is are h e took = absurd h
+  form_means (Run w) (image ∷ []) said is are h e took = absurd h
+  form_means (Run w) (image ∷ facts ∷ []) said is are h e took = absurd h
+  form_means (Run w) (image ∷ facts ∷ machine ∷ []) said is are h e took = absurd h
+  form_means (Run w) (image ∷ facts ∷ machine ∷ start ∷ []) said is are h e took =
+      run_means w (record { image = image; facts = facts; machine = machine }) start said is are h e took
+  form_means (Run w) (image ∷ facts ∷ machine ∷ start ∷ other ∷ contents) said is are h e took = absurd h
 
--- status 2
-pub at_two : (holds : Option Contents) (before after : ℕ) (words : List (List ℕ)) (taken taken' : Option (List ℕ)) (faults faults' ends : ℕ) → Ended holds before after words taken taken' faults faults' ends → ends ≡ 2 → ReadsNothing holds before after words
-at_two holds before after words taken taken' faults faults' ends ended e =
-    let said = in_full holds before after words taken taken' faults faults' ends ended (λ h. omega arith) (λ h. omega arith) in
-    unread_said holds before after words said.said said.cause (sym e ∙ said.status)
+  cause_means : (said : Reply) → HasCause reads words said → ends ≡ status_of said → Took taken taken' (text_of said) → Means reads words taken taken' ends
+  cause_means said (NoForm unfit asked g) e took = misused (e ∙ ap status_of g) unfit
+  cause_means said (OfForm form is (unread f)) e took = file_means form said is f e
+  cause_means said (OfForm form is (replied contents are h)) e took = form_means form contents said is are.whole h e took
 
-not_three_end : (e : End) → run_status e ≡ 3 → ⊥
-not_three_end end.Ended h = omega arith
-not_three_end end.Limit h = omega arith
-not_three_end (end.Stopped why address) h = omega arith
-not_three_end (end.Breaks fact address) h = omega arith
+  -- how a call ended, as the answer and its handing over say
+  abbrev pub Ended : ℕ → ℕ → Type 0
+  Ended faults faults' = (status : ℕ) × (text : List ℕ) × IsAnswer reads words status text × HandsOver taken taken' faults faults' status text ends
 
--- no reply has the status of a text that can't be handed over
-pub not_three : (said : Reply) → status_of said ≡ 3 → ⊥
-not_three (reply.Bound cycles) e = omega arith
-not_three reply.Usage e = omega arith
-not_three (reply.Unreadable named) e = omega arith
-not_three (reply.Missing named) e = omega arith
-not_three (reply.LeavesCode addr) e = omega arith
-not_three (reply.Unsupported addr word) e = omega arith
-not_three (reply.LongFile named) e = omega arith
-not_three (reply.BadImage refusal) e = omega arith
-not_three (reply.BadFacts refusal) e = omega arith
-not_three (reply.BadMachine refusal) e = omega arith
-not_three (reply.NoEntry n) e = omega arith
-not_three (reply.BadStart refusal) e = omega arith
-not_three (reply.BadFlow refusal) e = omega arith
-not_three (reply.Ran report) e = not_three_end report.end e
+  meaning_in : (faults faults' status : ℕ) (text : List ℕ) → IsAnswer reads words status text → HandsOver taken taken' faults faults' status text ends → (ends ≡ 3 → ⊥) → (ends ≡ 9 → ⊥) → Means reads words taken taken' ends
+  meaning_in faults faults' status text (Says said cause s t) (Whole e took same) three nine = cause_means said cause (e ∙ s) (subst (Took taken taken') t took)
+  meaning_in faults faults' status text (Starves is s t) (Whole e took same) three nine = absurd (nine (e ∙ s))
+  meaning_in faults faults' status text answer (Unwritten e took rose) three nine = absurd (three e)
+  meaning_in faults faults' status text answer (Starved e took same) three nine = absurd (nine e)
 
-sink_failed : (holds : Option Contents) (before after : ℕ) (words : List (List ℕ)) (taken taken' : Option (List ℕ)) (faults faults' ends status : ℕ) (text : List ℕ) → IsAnswer holds before after words status text → HandsOver taken taken' faults faults' status text ends → ends ≡ 3 → Rose faults faults'
-sink_failed holds before after words taken taken' faults faults' ends status text (Says said cause s t) (Whole e took same) three = absurd (not_three said (sym (e ∙ s) ∙ three))
-sink_failed holds before after words taken taken' faults faults' ends status text (Starves s t) (Whole e took same) three = absurd (omega (arith, s, e, three))
-sink_failed holds before after words taken taken' faults faults' ends status text answer (Unwritten e took rose) three = rose
-sink_failed holds before after words taken taken' faults faults' ends status text answer (Starved e took same) three = absurd (omega (arith, e, three))
+  meaning : (faults faults' : ℕ) → Ended faults faults' → (ends ≡ 3 → ⊥) → (ends ≡ 9 → ⊥) → Means reads words taken taken' ends
+  meaning faults faults' (status, text, answer, hands) three nine = meaning_in faults faults' status text answer hands three nine
 
--- status 3
-pub at_three : (holds : Option Contents) (before after : ℕ) (words : List (List ℕ)) (taken taken' : Option (List ℕ)) (faults faults' ends : ℕ) → Ended holds before after words taken taken' faults faults' ends → ends ≡ 3 → Rose faults faults'
-at_three holds before after words taken taken' faults faults' ends (status, text, answer, hands) e =
-    sink_failed holds before after words taken taken' faults faults' ends status text answer hands e
+  no_refusal : IsRefusal ends → (ends ≡ 4 → ⊥) → (ends ≡ 5 → ⊥) → (ends ≡ 6 → ⊥) → (ends ≡ 12 → ⊥) → ⊥
+  no_refusal (of_image e) p q r s = p e
+  no_refusal (of_facts e) p q r s = q e
+  no_refusal (of_machine e) p q r s = r e
+  no_refusal (of_start e) p q r s = s e
 
-must_be_three : (taken taken' : Option (List ℕ)) (faults faults' ends status : ℕ) (text : List ℕ) → HandsOver taken taken' faults faults' status text ends → faults < faults' → ends ≡ 3
-must_be_three taken taken' faults faults' ends status text (Whole e took same) more = absurd (omega (arith, same))
-must_be_three taken taken' faults faults' ends status text (Unwritten e took rose) more = e
-must_be_three taken taken' faults faults' ends status text (Starved e took same) more = absurd (omega (arith, same))
+  no_report : IsReported ends → (ends ≡ 0 → ⊥) → (ends ≡ 11 → ⊥) → ⊥
+  no_report (in_time e) p q = p e
+  no_report (breaks e) p q = q e
 
--- the sink's faults turn every other status into 3
-pub by_fault : (holds : Option Contents) (before after : ℕ) (words : List (List ℕ)) (taken taken' : Option (List ℕ)) (faults faults' ends : ℕ) → Ended holds before after words taken taken' faults faults' ends → faults < faults' → ends ≡ 3
-by_fault holds before after words taken taken' faults faults' ends (status, text, answer, hands) more =
-    must_be_three taken taken' faults faults' ends status text hands more
+  -- each other meaning has another status
+  not_refused : (n : ℕ) → ends ≡ n → IsRefusal ends → (n ≡ 4 → ⊥) → (n ≡ 5 → ⊥) → (n ≡ 6 → ⊥) → (n ≡ 12 → ⊥) → ⊥
+  not_refused n k r p q s t = no_refusal r (λ h. p (sym k ∙ h)) (λ h. q (sym k ∙ h)) (λ h. s (sym k ∙ h)) (λ h. t (sym k ∙ h))
 
-flat_image_said : (holds : Option Contents) (before after : ℕ) (words : List (List ℕ)) (name : List ℕ) (said : Reply) → IsFlat words name → FlatCause holds before after name said → 4 ≡ status_of said → RefusesImage holds words
-flat_image_said holds before after words name (reply.LeavesCode addr) form (bytes, content, cut) s =
-    record { name = name; bytes = bytes; form = form; content = content; fault = inl (addr, cut) }
-flat_image_said holds before after words name (reply.Unsupported addr word) form (bytes, content, foreign) s =
-    record { name = name; bytes = bytes; form = form; content = content; fault = inr (addr, word, foreign) }
-flat_image_said holds before after words name (reply.Bound cycles) form cause s = absurd (omega arith)
-flat_image_said holds before after words name reply.Usage form cause s = absurd cause
-flat_image_said holds before after words name (reply.Unreadable named) form cause s = absurd (omega arith)
-flat_image_said holds before after words name (reply.Missing named) form cause s = absurd (omega arith)
-flat_image_said holds before after words name (reply.LongFile named) form cause s = absurd (omega arith)
-flat_image_said holds before after words name (reply.BadImage e) form cause s = absurd cause
-flat_image_said holds before after words name (reply.BadFacts e) form cause s = absurd cause
-flat_image_said holds before after words name (reply.BadMachine e) form cause s = absurd cause
-flat_image_said holds before after words name (reply.NoEntry n) form cause s = absurd cause
-flat_image_said holds before after words name (reply.BadStart e) form cause s = absurd cause
-flat_image_said holds before after words name (reply.BadFlow e) form cause s = absurd cause
-flat_image_said holds before after words name (reply.Ran report) form cause s = absurd cause
+  not_reported : (n : ℕ) → ends ≡ n → IsReported ends → (n ≡ 0 → ⊥) → (n ≡ 11 → ⊥) → ⊥
+  not_reported n k r p q = no_report r (λ h. p (sym k ∙ h)) (λ h. q (sym k ∙ h))
 
-image_said : (holds : Option Contents) (before after : ℕ) (words : List (List ℕ)) (said : Reply) → HasCause holds before after words said → 4 ≡ status_of said → RefusesImage holds words ⊎ RefusesRun holds words 4
-image_said holds before after words said (NoForm none e) s = absurd (omega (arith, usage_is 4 said e s))
-image_said holds before after words said (OfFlat name form cause) s = inl (flat_image_said holds before after words name said form cause s)
-image_said holds before after words said (OfRun w form (unread is)) s = absurd (some_unread_is_not 4 holds before after (files_of w) said s is (λ h. omega arith) (λ h. omega arith))
-image_said holds before after words said (OfRun w form (replied files contents cause)) s = inr (record { w = w; files = files; said = said; form = form; contents = contents; cause = cause; ends = s })
+  other : (m n : ℕ) → ends ≡ m → ends ≡ n → (m ≡ n → ⊥) → ⊥
+  other m n e k differ = differ (sym e ∙ k)
 
--- status 4
-pub at_four : (holds : Option Contents) (before after : ℕ) (words : List (List ℕ)) (taken taken' : Option (List ℕ)) (faults faults' ends : ℕ) → Ended holds before after words taken taken' faults faults' ends → ends ≡ 4 → RefusesImage holds words ⊎ RefusesRun holds words 4
-at_four holds before after words taken taken' faults faults' ends ended e =
-    let said = in_full holds before after words taken taken' faults faults' ends ended (λ h. omega arith) (λ h. omega arith) in
-    image_said holds before after words said.said said.cause (sym e ∙ said.status)
+  as_zero : Means reads words taken taken' ends → ends ≡ 0 → AnswersBound reads.holds words taken taken' ⊎ ReportsRun reads.holds words taken taken' 0
+  as_zero (misused e unfit) k = absurd (other 1 0 e k (λ h. omega (arith, h)))
+  as_zero (not_read e is) k = absurd (other 2 0 e k (λ h. omega (arith, h)))
+  as_zero (too_large e is) k = absurd (other 10 0 e k (λ h. omega (arith, h)))
+  as_zero (refuses r is) k = absurd (not_refused 0 k r (λ h. omega (arith, h)) (λ h. omega (arith, h)) (λ h. omega (arith, h)) (λ h. omega (arith, h)))
+  as_zero (bounds e is) k = inl is
+  as_zero (reports r is) k = inr (subst (ReportsRun reads.holds words taken taken') k is)
 
--- a status that only replies to the contents of the files of `run` have
-refused_said : (holds : Option Contents) (before after : ℕ) (words : List (List ℕ)) (s : ℕ) (said : Reply) → (s ≡ 0 → ⊥) → (s ≡ 1 → ⊥) → (s ≡ 2 → ⊥) → (s ≡ 4 → ⊥) → (s ≡ 10 → ⊥) → HasCause holds before after words said → s ≡ status_of said → RefusesRun holds words s
-refused_said holds before after words s said zero one two four ten (NoForm none e) is = absurd (one (usage_is s said e is))
-refused_said holds before after words s said zero one two four ten (OfFlat name form cause) is = absurd (flat_is_not s (status_of said) is (flat_status holds before after name said cause) zero two four ten)
-refused_said holds before after words s said zero one two four ten (OfRun w form (unread u)) is = absurd (some_unread_is_not s holds before after (files_of w) said is u two ten)
-refused_said holds before after words s said zero one two four ten (OfRun w form (replied files contents cause)) is = record { w = w; files = files; said = said; form = form; contents = contents; cause = cause; ends = is }
+  as_one : Means reads words taken taken' ends → ends ≡ 1 → ¬ FitsForm words
+  as_one (misused e unfit) k = unfit
+  as_one (not_read e is) k = absurd (other 2 1 e k (λ h. omega (arith, h)))
+  as_one (too_large e is) k = absurd (other 10 1 e k (λ h. omega (arith, h)))
+  as_one (refuses r is) k = absurd (not_refused 1 k r (λ h. omega (arith, h)) (λ h. omega (arith, h)) (λ h. omega (arith, h)) (λ h. omega (arith, h)))
+  as_one (bounds e is) k = absurd (other 0 1 e k (λ h. omega (arith, h)))
+  as_one (reports r is) k = absurd (not_reported 1 k r (λ h. omega (arith, h)) (λ h. omega (arith, h)))
 
--- status 5
-pub at_five : (holds : Option Contents) (before after : ℕ) (words : List (List ℕ)) (taken taken' : Option (List ℕ)) (faults faults' ends : ℕ) → Ended holds before after words taken taken' faults faults' ends → ends ≡ 5 → RefusesRun holds words 5
-at_five holds before after words taken taken' faults faults' ends ended e =
-    let said = in_full holds before after words taken taken' faults faults' ends ended (λ h. omega arith) (λ h. omega arith) in
-    refused_said holds before after words 5 said.said (λ h. omega arith) (λ h. omega arith) (λ h. omega arith) (λ h. omega arith) (λ h. omega arith) said.cause (sym e ∙ said.status)
+  as_two : Means reads words taken taken' ends → ends ≡ 2 → ReadsNothing reads words
+  as_two (misused e unfit) k = absurd (other 1 2 e k (λ h. omega (arith, h)))
+  as_two (not_read e is) k = is
+  as_two (too_large e is) k = absurd (other 10 2 e k (λ h. omega (arith, h)))
+  as_two (refuses r is) k = absurd (not_refused 2 k r (λ h. omega (arith, h)) (λ h. omega (arith, h)) (λ h. omega (arith, h)) (λ h. omega (arith, h)))
+  as_two (bounds e is) k = absurd (other 0 2 e k (λ h. omega (arith, h)))
+  as_two (reports r is) k = absurd (not_reported 2 k r (λ h. omega (arith, h)) (λ h. omega (arith, h)))
 
--- status 6
-pub at_six : (holds : Option Contents) (before after : ℕ) (words : List (List ℕ)) (taken taken' : Option (List ℕ)) (faults faults' ends : ℕ) → Ended holds before after words taken taken' faults faults' ends → ends ≡ 6 → RefusesRun holds words 6
-at_six holds before after words taken taken' faults faults' ends ended e =
-    let said = in_full holds before after words taken taken' faults faults' ends ended (λ h. omega arith) (λ h. omega arith) in
-    refused_said holds before after words 6 said.said (λ h. omega arith) (λ h. omega arith) (λ h. omega arith) (λ h. omega arith) (λ h. omega arith) said.cause (sym e ∙ said.status)
+  as_four : Means reads words taken taken' ends → ends ≡ 4 → Refuses reads.holds words 4
+  as_four (misused e unfit) k = absurd (other 1 4 e k (λ h. omega (arith, h)))
+  as_four (not_read e is) k = absurd (other 2 4 e k (λ h. omega (arith, h)))
+  as_four (too_large e is) k = absurd (other 10 4 e k (λ h. omega (arith, h)))
+  as_four (refuses r is) k = subst (Refuses reads.holds words) k is
+  as_four (bounds e is) k = absurd (other 0 4 e k (λ h. omega (arith, h)))
+  as_four (reports r is) k = absurd (not_reported 4 k r (λ h. omega (arith, h)) (λ h. omega (arith, h)))
 
--- status 12
-pub at_twelve : (holds : Option Contents) (before after : ℕ) (words : List (List ℕ)) (taken taken' : Option (List ℕ)) (faults faults' ends : ℕ) → Ended holds before after words taken taken' faults faults' ends → ends ≡ 12 → RefusesRun holds words 12
-at_twelve holds before after words taken taken' faults faults' ends ended e =
-    let said = in_full holds before after words taken taken' faults faults' ends ended (λ h. omega arith) (λ h. omega arith) in
-    refused_said holds before after words 12 said.said (λ h. omega arith) (λ h. omega arith) (λ h. omega arith) (λ h. omega arith) (λ h. omega arith) said.cause (sym e ∙ said.status)
+  as_five : Means reads words taken taken' ends → ends ≡ 5 → Refuses reads.holds words 5
+  as_five (misused e unfit) k = absurd (other 1 5 e k (λ h. omega (arith, h)))
+  as_five (not_read e is) k = absurd (other 2 5 e k (λ h. omega (arith, h)))
+  as_five (too_large e is) k = absurd (other 10 5 e k (λ h. omega (arith, h)))
+  as_five (refuses r is) k = subst (Refuses reads.holds words) k is
+  as_five (bounds e is) k = absurd (other 0 5 e k (λ h. omega (arith, h)))
+  as_five (reports r is) k = absurd (not_reported 5 k r (λ h. omega (arith, h)) (λ h. omega (arith, h)))
 
-flat_long_said : (holds : Option Contents) (before after : ℕ) (words : List (List ℕ)) (name : List ℕ) (said : Reply) → IsFlat words name → FlatCause holds before after name said → 10 ≡ status_of said → IsTooLarge holds words
-flat_long_said holds before after words name (reply.LongFile named) form (is, (bytes, cut)) s = record { name = name; bytes = bytes; come = flat_file holds words name form; cut = cut }
-flat_long_said holds before after words name (reply.Bound cycles) form cause s = absurd (omega arith)
-flat_long_said holds before after words name reply.Usage form cause s = absurd cause
-flat_long_said holds before after words name (reply.Unreadable named) form cause s = absurd (omega arith)
-flat_long_said holds before after words name (reply.Missing named) form cause s = absurd (omega arith)
-flat_long_said holds before after words name (reply.LeavesCode addr) form cause s = absurd (omega arith)
-flat_long_said holds before after words name (reply.Unsupported addr word) form cause s = absurd (omega arith)
-flat_long_said holds before after words name (reply.BadImage e) form cause s = absurd cause
-flat_long_said holds before after words name (reply.BadFacts e) form cause s = absurd cause
-flat_long_said holds before after words name (reply.BadMachine e) form cause s = absurd cause
-flat_long_said holds before after words name (reply.NoEntry n) form cause s = absurd cause
-flat_long_said holds before after words name (reply.BadStart e) form cause s = absurd cause
-flat_long_said holds before after words name (reply.BadFlow e) form cause s = absurd cause
-flat_long_said holds before after words name (reply.Ran report) form cause s = absurd cause
+  as_six : Means reads words taken taken' ends → ends ≡ 6 → Refuses reads.holds words 6
+  as_six (misused e unfit) k = absurd (other 1 6 e k (λ h. omega (arith, h)))
+  as_six (not_read e is) k = absurd (other 2 6 e k (λ h. omega (arith, h)))
+  as_six (too_large e is) k = absurd (other 10 6 e k (λ h. omega (arith, h)))
+  as_six (refuses r is) k = subst (Refuses reads.holds words) k is
+  as_six (bounds e is) k = absurd (other 0 6 e k (λ h. omega (arith, h)))
+  as_six (reports r is) k = absurd (not_reported 6 k r (λ h. omega (arith, h)) (λ h. omega (arith, h)))
 
-run_cut : (holds : Option Contents) (before after : ℕ) (name : List ℕ) (said : Reply) → IsUnread holds before after name said → 10 ≡ status_of said → (bytes : List ℕ) × IsCut holds name bytes
-run_cut holds before after name said (failed rose) s = absurd (omega (arith, s))
-run_cut holds before after name said (missing none) s = absurd (omega (arith, s))
-run_cut holds before after name said (long bytes cut) s = (bytes, cut)
+  as_ten : Means reads words taken taken' ends → ends ≡ 10 → IsTooLarge reads words
+  as_ten (misused e unfit) k = absurd (other 1 10 e k (λ h. omega (arith, h)))
+  as_ten (not_read e is) k = absurd (other 2 10 e k (λ h. omega (arith, h)))
+  as_ten (too_large e is) k = is
+  as_ten (refuses r is) k = absurd (not_refused 10 k r (λ h. omega (arith, h)) (λ h. omega (arith, h)) (λ h. omega (arith, h)) (λ h. omega (arith, h)))
+  as_ten (bounds e is) k = absurd (other 0 10 e k (λ h. omega (arith, h)))
+  as_ten (reports r is) k = absurd (not_reported 10 k r (λ h. omega (arith, h)) (λ h. omega (arith, h)))
 
-long_said : (holds : Option Contents) (before after : ℕ) (words : List (List ℕ)) (said : Reply) → HasCause holds before after words said → 10 ≡ status_of said → IsTooLarge holds words
-long_said holds before after words said (NoForm none e) s = absurd (omega (arith, usage_is 10 said e s))
-long_said holds before after words said (OfFlat name form cause) s = flat_long_said holds before after words name said form cause s
-long_said holds before after words said (OfRun w form (unread is)) s =
-    let f = found holds before after (files_of w) said is in
-    let c = run_cut holds before after f.name said f.unread_is s in
-    record { name = f.name; bytes = c.0; come = run_file holds before after words w said form f; cut = c.1 }
-long_said holds before after words said (OfRun w form (replied files contents cause)) s = absurd (run_is_not 10 (status_of said) s (reply_status files w said cause) (λ h. omega arith) (λ h. omega arith) (λ h. omega arith) (λ h. omega arith) (λ h. omega arith) (λ h. omega arith))
+  as_eleven : Means reads words taken taken' ends → ends ≡ 11 → ReportsRun reads.holds words taken taken' 11
+  as_eleven (misused e unfit) k = absurd (other 1 11 e k (λ h. omega (arith, h)))
+  as_eleven (not_read e is) k = absurd (other 2 11 e k (λ h. omega (arith, h)))
+  as_eleven (too_large e is) k = absurd (other 10 11 e k (λ h. omega (arith, h)))
+  as_eleven (refuses r is) k = absurd (not_refused 11 k r (λ h. omega (arith, h)) (λ h. omega (arith, h)) (λ h. omega (arith, h)) (λ h. omega (arith, h)))
+  as_eleven (bounds e is) k = absurd (other 0 11 e k (λ h. omega (arith, h)))
+  as_eleven (reports r is) k = subst (ReportsRun reads.holds words taken taken') k is
 
--- status 10
-pub at_ten : (holds : Option Contents) (before after : ℕ) (words : List (List ℕ)) (taken taken' : Option (List ℕ)) (faults faults' ends : ℕ) → Ended holds before after words taken taken' faults faults' ends → ends ≡ 10 → IsTooLarge holds words
-at_ten holds before after words taken taken' faults faults' ends ended e =
-    let said = in_full holds before after words taken taken' faults faults' ends ended (λ h. omega arith) (λ h. omega arith) in
-    long_said holds before after words said.said said.cause (sym e ∙ said.status)
+  as_twelve : Means reads words taken taken' ends → ends ≡ 12 → Refuses reads.holds words 12
+  as_twelve (misused e unfit) k = absurd (other 1 12 e k (λ h. omega (arith, h)))
+  as_twelve (not_read e is) k = absurd (other 2 12 e k (λ h. omega (arith, h)))
+  as_twelve (too_large e is) k = absurd (other 10 12 e k (λ h. omega (arith, h)))
+  as_twelve (refuses r is) k = subst (Refuses reads.holds words) k is
+  as_twelve (bounds e is) k = absurd (other 0 12 e k (λ h. omega (arith, h)))
+  as_twelve (reports r is) k = absurd (not_reported 12 k r (λ h. omega (arith, h)) (λ h. omega (arith, h)))
+
+  module _ (faults faults' : ℕ) (ended : Ended faults faults') where
+    pub at_zero : ends ≡ 0 → AnswersBound reads.holds words taken taken' ⊎ ReportsRun reads.holds words taken taken' 0
+    at_zero k = as_zero (meaning faults faults' ended (λ h. other 3 0 h k (λ g. omega (arith, g))) (λ h. other 9 0 h k (λ g. omega (arith, g)))) k
+
+    pub at_one : ends ≡ 1 → ¬ FitsForm words
+    at_one k = as_one (meaning faults faults' ended (λ h. other 3 1 h k (λ g. omega (arith, g))) (λ h. other 9 1 h k (λ g. omega (arith, g)))) k
+
+    pub at_two : ends ≡ 2 → ReadsNothing reads words
+    at_two k = as_two (meaning faults faults' ended (λ h. other 3 2 h k (λ g. omega (arith, g))) (λ h. other 9 2 h k (λ g. omega (arith, g)))) k
+
+    pub at_four : ends ≡ 4 → Refuses reads.holds words 4
+    at_four k = as_four (meaning faults faults' ended (λ h. other 3 4 h k (λ g. omega (arith, g))) (λ h. other 9 4 h k (λ g. omega (arith, g)))) k
+
+    pub at_five : ends ≡ 5 → Refuses reads.holds words 5
+    at_five k = as_five (meaning faults faults' ended (λ h. other 3 5 h k (λ g. omega (arith, g))) (λ h. other 9 5 h k (λ g. omega (arith, g)))) k
+
+    pub at_six : ends ≡ 6 → Refuses reads.holds words 6
+    at_six k = as_six (meaning faults faults' ended (λ h. other 3 6 h k (λ g. omega (arith, g))) (λ h. other 9 6 h k (λ g. omega (arith, g)))) k
+
+    pub at_ten : ends ≡ 10 → IsTooLarge reads words
+    at_ten k = as_ten (meaning faults faults' ended (λ h. other 3 10 h k (λ g. omega (arith, g))) (λ h. other 9 10 h k (λ g. omega (arith, g)))) k
+
+    pub at_eleven : ends ≡ 11 → ReportsRun reads.holds words taken taken' 11
+    at_eleven k = as_eleven (meaning faults faults' ended (λ h. other 3 11 h k (λ g. omega (arith, g))) (λ h. other 9 11 h k (λ g. omega (arith, g)))) k
+
+    pub at_twelve : ends ≡ 12 → Refuses reads.holds words 12
+    at_twelve k = as_twelve (meaning faults faults' ended (λ h. other 3 12 h k (λ g. omega (arith, g))) (λ h. other 9 12 h k (λ g. omega (arith, g)))) k
+
+    pub at_three : ends ≡ 3 → Rose faults faults'
+    at_three k = three_rose taken taken' faults faults' ends ended.0 ended.1 ended.3 (status_is_not_three ended.2) k
+      where
+        status_is_not_three : {status : ℕ} {text : List ℕ} → IsAnswer reads words status text → status ≡ 3 → ⊥
+        status_is_not_three (Says said cause s t) h = not_three said (sym s ∙ h)
+        status_is_not_three (Starves is s t) h = omega (arith, s, h)

@@ -5,10 +5,10 @@ use Rattle.std.proofs.lemmas.Grind.{flat_map-append}
 use Rattle.std.specs.List.{AllByRecursion}
 use Rattle.wx_base.specs.Bits.{bytes_of_word}
 use Rattle.wx_base.specs.Machine.{m1}
-use Rattle.wcet_cli.specs.declared.reply.Reply.{Reply}
-use Rattle.wcet_cli.specs.declared.reply.Reply.TheVariants as reply
+use Rattle.wcet_front.specs.declared.reply.Reply.{Reply}
+use Rattle.wcet_front.specs.declared.reply.Reply.TheVariants as reply
 use Rattle.wcet_cli.specs.Straight.{IsPlain, IsLast, bytes_of, address_behind, IsProgram, IsCutOff, IsForeign, bound_of}
-use Rattle.wcet_cli.specs.Flat.{IsBoundReply}
+use Rattle.wcet_cli.specs.FlatCommand.{FlatReply, bound, leaves_code, unsupported}
 
 -- four bytes are one word
 record SameWord (v w : ℕ) (a b : List ℕ) : Type 0 where
@@ -104,50 +104,28 @@ one_program bytes p q x y =
     x.words_are ∙ ap (λ (b : List ℕ). b ++ (x.last ∷ [])) same.words ∙ ap (λ n. y.body ++ (n ∷ [])) last.word ∙ sym y.words_are
 
 -- the bytes of a file call for one reply
-pub one_bound_reply : (bytes : List ℕ) (r s : Reply) → IsBoundReply bytes r → IsBoundReply bytes s → r ≡ s
-one_bound_reply bytes (reply.Bound m) (reply.Bound n) (p, x, e) (q, y, f) = ap reply.Bound (e ∙ ap (bound_of m1) (one_program bytes p q x y) ∙ sym f)
-one_bound_reply bytes (reply.Bound m) (reply.LeavesCode a) (p, x, e) c =
+pub one_flat_reply : (bytes : List ℕ) (r s : Reply) → FlatReply bytes r → FlatReply bytes s → r ≡ s
+one_flat_reply bytes r s (bound p x e) (bound q y f) = e ∙ ap (λ program. reply.Bound (bound_of m1 program)) (one_program bytes p q x y) ∙ sym f
+one_flat_reply bytes r s (bound p x e) (leaves_code a c f) =
     absurd (too_short x.last x.rest c.rest (same_readings bytes _ _ _ _ (program_reading bytes p x) (cut_reading bytes a c)).left c.short)
-one_bound_reply bytes (reply.Bound m) (reply.Unsupported a w) (p, x, e) f =
+one_flat_reply bytes r s (bound p x e) (unsupported a w f g) =
     let same = same_readings bytes _ _ _ _ (program_reading bytes p x) (foreign_reading bytes a w f) in
     let word = same_word x.last w x.rest f.rest x.ends.fits f.fits same.left in
     absurd (f.not_last (subst IsLast word.word x.ends))
-one_bound_reply bytes (reply.LeavesCode a) (reply.Bound m) c (p, x, e) =
+one_flat_reply bytes r s (leaves_code a c e) (bound p x f) =
     absurd (too_short x.last x.rest c.rest (same_readings bytes _ _ _ _ (program_reading bytes p x) (cut_reading bytes a c)).left c.short)
-one_bound_reply bytes (reply.LeavesCode a) (reply.LeavesCode b) c d =
+one_flat_reply bytes r s (leaves_code a c e) (leaves_code b d f) =
     let same = same_readings bytes _ _ _ _ (cut_reading bytes a c) (cut_reading bytes b d) in
-    ap reply.LeavesCode (c.at ∙ ap address_behind same.words ∙ sym d.at)
-one_bound_reply bytes (reply.LeavesCode a) (reply.Unsupported b w) c f =
+    e ∙ ap reply.LeavesCode (c.at ∙ ap address_behind same.words ∙ sym d.at) ∙ sym f
+one_flat_reply bytes r s (leaves_code a c e) (unsupported b w f g) =
     absurd (too_short w f.rest c.rest (same_readings bytes _ _ _ _ (foreign_reading bytes b w f) (cut_reading bytes a c)).left c.short)
-one_bound_reply bytes (reply.Unsupported a w) (reply.Bound m) f (p, x, e) =
+one_flat_reply bytes r s (unsupported a w f e) (bound p x g) =
     let same = same_readings bytes _ _ _ _ (program_reading bytes p x) (foreign_reading bytes a w f) in
     let word = same_word x.last w x.rest f.rest x.ends.fits f.fits same.left in
     absurd (f.not_last (subst IsLast word.word x.ends))
-one_bound_reply bytes (reply.Unsupported a w) (reply.LeavesCode b) f c =
+one_flat_reply bytes r s (unsupported a w f e) (leaves_code b c g) =
     absurd (too_short w f.rest c.rest (same_readings bytes _ _ _ _ (foreign_reading bytes a w f) (cut_reading bytes b c)).left c.short)
-one_bound_reply bytes (reply.Unsupported a v) (reply.Unsupported b w) f g =
+one_flat_reply bytes r s (unsupported a v f e) (unsupported b w g h) =
     let same = same_readings bytes _ _ _ _ (foreign_reading bytes a v f) (foreign_reading bytes b w g) in
     let word = same_word v w f.rest g.rest f.fits g.fits same.left in
-    ap (λ n. reply.Unsupported n v) (f.at ∙ ap address_behind same.words ∙ sym g.at) ∙ ap (λ n. reply.Unsupported b n) word.word
-one_bound_reply bytes reply.Usage s p q = absurd p
-one_bound_reply bytes (reply.Unreadable n) s p q = absurd p
-one_bound_reply bytes (reply.Missing n) s p q = absurd p
-one_bound_reply bytes (reply.LongFile n) s p q = absurd p
-one_bound_reply bytes (reply.BadImage x) s p q = absurd p
-one_bound_reply bytes (reply.BadFacts x) s p q = absurd p
-one_bound_reply bytes (reply.BadMachine x) s p q = absurd p
-one_bound_reply bytes (reply.NoEntry x) s p q = absurd p
-one_bound_reply bytes (reply.BadStart x) s p q = absurd p
-one_bound_reply bytes (reply.BadFlow x) s p q = absurd p
-one_bound_reply bytes (reply.Ran x) s p q = absurd p
-one_bound_reply bytes r reply.Usage p q = absurd q
-one_bound_reply bytes r (reply.Unreadable n) p q = absurd q
-one_bound_reply bytes r (reply.Missing n) p q = absurd q
-one_bound_reply bytes r (reply.LongFile n) p q = absurd q
-one_bound_reply bytes r (reply.BadImage x) p q = absurd q
-one_bound_reply bytes r (reply.BadFacts x) p q = absurd q
-one_bound_reply bytes r (reply.BadMachine x) p q = absurd q
-one_bound_reply bytes r (reply.NoEntry x) p q = absurd q
-one_bound_reply bytes r (reply.BadStart x) p q = absurd q
-one_bound_reply bytes r (reply.BadFlow x) p q = absurd q
-one_bound_reply bytes r (reply.Ran x) p q = absurd q
+    e ∙ ap (λ n. reply.Unsupported n v) (f.at ∙ ap address_behind same.words ∙ sym g.at) ∙ ap (λ n. reply.Unsupported b n) word.word ∙ sym h

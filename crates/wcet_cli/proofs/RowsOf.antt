@@ -6,8 +6,8 @@ use Rattle.wx_base.specs.Instruction.{Kind, AluImmediate, AluShift, AluByRegiste
 use Rattle.arm_code.specs.declared.insn.Insn.{Insn}
 use Rattle.arm_code.specs.Encoding.{decoded, insn_by, op_by, word_of}
 use Rattle.pipe_time.specs.Entries.{entry_of}
-use Rattle.wcet_cli.specs.declared.straight.Role.{Role}
-use Rattle.wcet_cli.specs.declared.straight.Role.TheVariants.{Plain, Last}
+use Rattle.wcet_cli.specs.declared.commands.straight.Role.{Role}
+use Rattle.wcet_cli.specs.declared.commands.straight.Role.TheVariants.{Plain, Last}
 use Rattle.wcet_cli.specs.Straight.{missing, IsPlain, IsLast, is_plain_alu, op_role}
 
 no_kind : (word : ℕ) (o : Option Kind) → option_map (insn_by word) o ≡ None → o ≡ None

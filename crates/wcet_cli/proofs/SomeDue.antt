@@ -10,13 +10,19 @@ use Rattle.std.specs.Str.{bytes_eq}
 use Rattle.wx_base.specs.Bits.{bytes_of_word}
 use Rattle.wx_base.specs.Machine.{m1}
 use Rattle.wx_base.specs.Instruction.{Kind, AluImmediate, Svc, AluShift, AluByRegister, Mul, MulLong, SingleImmediate, SingleRegister, HalfImmediate, HalfRegister, Block, Branch, Exchange, MovPcLr, kind_of, condition, opcode, sets_flags, rn, always}
-use Rattle.wx_base.specs.Outside.{Contents}
-use Rattle.wcet_cli.specs.declared.reply.Reply.{Reply}
-use Rattle.wcet_cli.specs.declared.reply.Reply.TheVariants as reply
+use Rattle.wx_host.specs.Outside.{Contents}
+use Rattle.wcet_front.specs.declared.reply.Reply.{Reply}
+use Rattle.wcet_front.specs.declared.reply.Reply.TheVariants as reply
+use Rattle.wcet_front.specs.Reply.{IsNoFault}
+use Rattle.wcet_front.specs.Files.{reads_of, missing, long, IsComeTo, AreRead, ReadsAndReplies, unread, replied}
+use Rattle.wcet_front.specs.FileLaws.{unread_is_due, reply_is_due}
 use Rattle.wcet_cli.specs.Straight.{is_plain_alu, origin, IsPlain, IsLast, bytes_of, address_behind, IsProgram, IsCutOff, IsForeign, bound_of}
-use Rattle.wcet_cli.specs.Flat.{IsNoFault}
-use Rattle.wcet_cli.specs.Command.{IsFlat, FitsForm, FitsFlat, FitsRun}
-use Rattle.wcet_cli.specs.Call.{IsNoRun, FlatCause, HasCause, NoForm, OfFlat, AreBytes}
+use Rattle.wcet_cli.specs.Words.{IsFlat}
+use Rattle.wcet_cli.specs.FlatCommand.{FlatReplies, bound, leaves_code, unsupported}
+use Rattle.wcet_cli.specs.Commands.{Form, Flat, Run, IsForm, FitsForm, files_of, Replies}
+use Rattle.wcet_cli.specs.Call.{IsNoRun, HasCause, NoForm, OfForm, AreBytes, IsDue}
+use Rattle.wcet_cli.proofs.OneForm.{cause_of}
+use Rattle.wcet_cli.proofs.Reading.{one_flat_reply}
 
 -- how the words of some bytes go, from a number of words on
 data Course (bytes : List ℕ) : Type 0 where
@@ -125,35 +131,48 @@ course (a ∷ b ∷ c ∷ d ∷ bytes) all =
     (by_kind word.0 bytes (kind_of word.0) word.1 refl (course bytes all.1.1.1.1))
 
 -- the reply that the content of a file calls for
-record Due (holds : Option Contents) (name : List ℕ) : Type 0 where
+record Due (contents : Contents) (name : List ℕ) : Type 0 where
   due : Reply
-  cause : FlatCause holds 0 0 name due
+  cause : ReadsAndReplies (reads_of contents) (name ∷ []) FlatReplies due
   free : IsNoFault due
 
-of_course : (contents : Contents) (name bytes : List ℕ) → contents name ≡ Some bytes → length bytes ≤ 16777216 → Course bytes → Due (Some contents) name
-of_course contents name bytes e l (Program program p) = record { due = reply.Bound (bound_of m1 program); cause = (bytes, program, (l, e), p, refl); free = tt }
-of_course contents name bytes e l (CutOff address c) = record { due = reply.LeavesCode address; cause = (bytes, (l, e), c); free = tt }
-of_course contents name bytes e l (Foreign address word f) = record { due = reply.Unsupported address word; cause = (bytes, (l, e), f); free = tt }
+module _ (contents : Contents) (name : List ℕ) where
+  read_as : (bytes : List ℕ) → contents name ≡ Some bytes → length bytes ≤ 16777216 → AreRead (reads_of contents) (name ∷ []) (bytes ∷ [])
+  read_as bytes e l = record { whole = ((l, e), tt); asked = refl }
 
-of_long : (contents : Contents) (name bytes : List ℕ) → contents name ≡ Some bytes → 16777216 < length bytes → Due (Some contents) name
-of_long contents name bytes e l = record {
-  due = reply.LongFile name;
-  cause = (refl, (take 16777216 bytes, (front bytes 16777216 (omega arith), (drop 16777216 bytes, rest bytes 16777216 l, e ∙ ap Some (sym (take-append-drop 16777216 bytes))))));
-  free = tt;
-}
-  where
-    front : (bytes : List ℕ) (n : ℕ) → n ≤ length bytes → length (take n bytes) ≡ n
-    front bytes n p = length-take-le n bytes p
+  of_course : (bytes : List ℕ) → contents name ≡ Some bytes → length bytes ≤ 16777216 → Course bytes → Due contents name
+  of_course bytes e l (Program program p) = record { due = reply.Bound (bound_of m1 program); cause = replied (bytes ∷ []) (read_as bytes e l) (bound program p refl); free = tt }
+  of_course bytes e l (CutOff address c) = record { due = reply.LeavesCode address; cause = replied (bytes ∷ []) (read_as bytes e l) (leaves_code address c refl); free = tt }
+  of_course bytes e l (Foreign address word f) = record { due = reply.Unsupported address word; cause = replied (bytes ∷ []) (read_as bytes e l) (unsupported address word f refl); free = tt }
 
-    rest : (bytes : List ℕ) (n : ℕ) → n < length bytes → 0 < length (drop n bytes)
-    rest bytes n p = omega (arith, length-drop n bytes)
+  come : IsComeTo (reads_of contents) (name ∷ []) name
+  come = record { front = []; contents = []; rest = []; names_are = refl; whole = tt; asked = refl }
 
-of_content : (contents : Contents) (name : List ℕ) (content : Option (List ℕ)) → contents name ≡ content → AreBytes contents → Due (Some contents) name
-of_content contents name None e all = record { due = reply.Missing name; cause = (refl, e); free = tt }
-of_content contents name (Some bytes) e all =
-    ⊎_elim (λ (long : 16777216 < length bytes). of_long contents name bytes e long)
-    (λ (short : length bytes ≤ 16777216). of_course contents name bytes e short (course bytes (all name bytes e)))
-    (cases_lt 16777216 (length bytes))
+  of_long : (bytes : List ℕ) → contents name ≡ Some bytes → 16777216 < length bytes → Due contents name
+  of_long bytes e l = record {
+    due = reply.LongFile name;
+    cause = unread (record {
+      name = name;
+      come = come;
+      unread = long (take 16777216 bytes)
+          (front bytes 16777216 (omega arith), (drop 16777216 bytes, rest bytes 16777216 l, e ∙ ap Some (sym (take-append-drop 16777216 bytes)))) refl;
+    });
+    free = tt;
+  }
+    where
+      front : (bytes : List ℕ) (n : ℕ) → n ≤ length bytes → length (take n bytes) ≡ n
+      front bytes n p = length-take-le n bytes p
+
+      rest : (bytes : List ℕ) (n : ℕ) → n < length bytes → 0 < length (drop n bytes)
+      rest bytes n p = omega (arith, length-drop n bytes)
+
+  of_content : (content : Option (List ℕ)) → contents name ≡ content → AreBytes contents → Due contents name
+  of_content None e all =
+      record { due = reply.Missing name; cause = unread (record { name = name; come = come; unread = missing e refl }); free = tt }
+  of_content (Some bytes) e all =
+      ⊎_elim (λ (more : 16777216 < length bytes). of_long bytes e more)
+      (λ (short : length bytes ≤ 16777216). of_course bytes e short (course bytes (all name bytes e)))
+      (cases_lt 16777216 (length bytes))
 
 -- the words are `flat` and a name
 abbrev HasName : List (List ℕ) → Type 0
@@ -181,13 +200,38 @@ form (w ∷ name ∷ x ∷ words) = inr (λ f. let e = f.1 in cc)
 
 -- words that are neither those of `flat` nor those of `run` fit no form
 no_form : (words : List (List ℕ)) → IsNoRun words → (HasName words → ⊥) → FitsForm words → ⊥
-no_form words no_run none (FitsFlat name is) = none (name, is)
-no_form words no_run none (FitsRun w is) = no_run w is
+no_form words no_run none fits = by_form fits.form fits.is
+  where
+    by_form : (form : Form) → IsForm words form → ⊥
+    by_form (Flat name) is = none (name, is)
+    by_form (Run w) is = no_run w is
 
 -- some reply is due
-pub some_is_due : (contents : Contents) (words : List (List ℕ)) → IsNoRun words → AreBytes contents → (due : Reply) × HasCause (Some contents) 0 0 words due × IsNoFault due
+pub some_is_due : (contents : Contents) (words : List (List ℕ)) → IsNoRun words → AreBytes contents → (due : Reply) × IsDue contents words due
 some_is_due contents words no_run all =
     ⊎_elim
-    (λ (fits : HasName words). let d = of_content contents fits.0 (contents fits.0) refl all in (d.due, OfFlat fits.0 fits.1 d.cause, d.free))
-    (λ (none : HasName words → ⊥). (reply.Usage, NoForm (no_form words no_run none) refl, tt))
+    (λ (fits : HasName words).
+    let d = of_content contents fits.0 (contents fits.0) refl all in
+    (d.due, record { cause = OfForm (Flat fits.0) fits.1 d.cause; free = d.free }))
+    (λ (none : HasName words → ⊥). (reply.Usage, record { cause = NoForm (no_form words no_run none) refl refl; free = tt }))
     (form words)
+
+-- and no other
+pub one_is_due : (contents : Contents) (words : List (List ℕ)) (r s : Reply) → IsNoRun words → IsDue contents words r → IsDue contents words s → r ≡ s
+one_is_due contents words r s no_run p q = by_cause p.cause q.cause
+  where
+    flat_one : (name : List ℕ) → ReadsAndReplies (reads_of contents) (name ∷ []) FlatReplies r → ReadsAndReplies (reads_of contents) (name ∷ []) FlatReplies s → r ≡ s
+    flat_one name (unread f) other = unread_is_due contents _ _ _ (name ∷ []) FlatReplies r s refl f other p.free q.free
+    flat_one name (replied [] are cause) other = absurd cause
+    flat_one name (replied (bytes ∷ []) are cause) other =
+        one_flat_reply bytes r s cause (reply_is_due contents _ _ _ (name ∷ []) (bytes ∷ []) FlatReplies s refl are other q.free)
+    flat_one name (replied (bytes ∷ more ∷ have) are cause) other = absurd cause
+
+    by_form : (form : Form) → IsForm words form → ReadsAndReplies (reads_of contents) (files_of form) (Replies form) r → ReadsAndReplies (reads_of contents) (files_of form) (Replies form) s → r ≡ s
+    by_form (Flat name) is cause other = flat_one name cause other
+    by_form (Run w) is cause other = absurd (no_run w is)
+
+    by_cause : HasCause (reads_of contents) words r → HasCause (reads_of contents) words s → r ≡ s
+    by_cause (NoForm unfit asked e) (NoForm unfit' asked' f) = e ∙ sym f
+    by_cause (NoForm unfit asked e) (OfForm form is cause) = absurd (unfit (record { form = form; is = is }))
+    by_cause (OfForm form is cause) other = by_form form is cause (cause_of (reads_of contents) words form s is other)

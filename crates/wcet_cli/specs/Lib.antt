@@ -1,12 +1,7 @@
 pub mod Straight
 pub mod Refusal
-pub mod RefusalText
-pub mod ReportText
-pub mod Reply
-pub mod Flat
-pub mod Stages
-pub mod Files
+pub mod Words
+pub mod FlatCommand
 pub mod RunCommand
-pub mod RunStages
-pub mod Command
+pub mod Commands
 pub mod Call

@@ -1,7 +1,7 @@
 -- Why bytes are no straight program.
 use Rattle.std.specs.Prelude.{ℕ, List}
-use Rattle.wcet_cli.specs.declared.straight.Refusal.{Refusal}
-use Rattle.wcet_cli.specs.declared.straight.Refusal.TheVariants as refusal
+use Rattle.wcet_cli.specs.declared.commands.straight.Refusal.{Refusal}
+use Rattle.wcet_cli.specs.declared.commands.straight.Refusal.TheVariants as refusal
 use Rattle.wcet_cli.specs.Straight.{IsCutOff, IsForeign}
 
 -- the cause of a refusal stands

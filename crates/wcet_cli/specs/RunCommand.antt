@@ -1,92 +1,69 @@
--- What `run` answers: the report of the one run that a start text names, or why there is none. This project's own.
-use Rattle.std.specs.Prelude.{◌≡◌, ◌≢◌, ◌≤◌, ℕ, List, [], ◌∷◌, ◌++◌, codes, Option, Some, None, length}
-use Rattle.wx_base.specs.declared.facts.Facts.{Facts}
-use Rattle.wx_base.specs.declared.image.Image.{Image}
-use Rattle.wx_base.specs.declared.machine.Machine.{Machine}
-use Rattle.wx_base.specs.Cache.{IsCache}
-use Rattle.wx_base.specs.Decimal.{decimal}
+-- What `run` replies: the report of the one run that a start text names, or why there is none. This project's own.
+use Rattle.std.specs.Prelude.{◌≡◌, ℕ, List, [], ◌∷◌, Option}
 use Rattle.wx_base.specs.Functions.{AreRules}
 use Rattle.wx_base.specs.Monitor.{Rules}
-use Rattle.wx_base.specs.Outside.{Contents}
-use Rattle.wx_base.specs.Run.{run_of}
-use Rattle.wx_base.specs.Symbols.{symbol_value}
-use Rattle.elf_image.specs.Causes as elf
-use Rattle.elf_image.specs.Meaning.{image_of}
-use Rattle.ffx_facts.specs.Causes as ffx
-use Rattle.machine_desc.specs.Causes as machine_desc
-use Rattle.flow_graph.specs.Refusals as flow
-use Rattle.start_file.specs.declared.start_state.Start.{Start}
-use Rattle.run_machine.specs.Report.{report_of, start_of}
-use Rattle.start_file.specs.StartRefusal as start
-use Rattle.start_file.specs.declared.start_error.StartError.TheVariants as start_error
-use Rattle.wcet_cli.specs.declared.reply.Reply.{Reply}
-use Rattle.wcet_cli.specs.declared.reply.Reply.TheVariants as reply
-use Rattle.wcet_cli.specs.declared.files.RunFiles.{RunFiles}
-use Rattle.wcet_cli.specs.Files.{RunWords, IsSomeUnread, AreContents, files_of}
+use Rattle.wx_base.specs.Run.{Start, run_of}
+use Rattle.wx_host.specs.Outside.{Contents}
+use Rattle.flow_graph.specs.declared.error.FlowError.{FlowError}
+use Rattle.flow_graph.specs.declared.program.Program.{Program}
+use Rattle.flow_graph.specs.Program.{rules_of}
+use Rattle.flow_graph.specs.Refusals.{IsCause}
+use Rattle.run_machine.specs.declared.report.Report.{Report}
+use Rattle.run_machine.specs.Report.{report_of}
+use Rattle.wcet_front.specs.declared.inputs.InputTexts.{InputTexts}
+use Rattle.wcet_front.specs.declared.inputs.Inputs.{Inputs}
+use Rattle.wcet_front.specs.declared.reply.Reply.{Reply}
+use Rattle.wcet_front.specs.declared.reply.Reply.TheVariants as reply
+use Rattle.wcet_front.specs.Reply.{run_status, text_of}
+use Rattle.wcet_front.specs.Files.{AreContents}
+use Rattle.wcet_front.specs.Handing.{Took}
+use Rattle.wcet_front.specs.Inputs.{AreTold, IsInputsRefusal, IsEntryOf, IsEntryRefusal, IsStartTold, IsStartRefusal, IsSoundProgram, IsFlowRefusal}
+use Rattle.wcet_front.specs.Stages.{Then}
+use Rattle.wcet_cli.specs.Words.{RunWords, IsRun}
 
--- the greatest number of instructions that a run may be given
-abbrev pub most_steps : ℕ
-most_steps = 1000000000
+-- the files of `run` in the order in which they are read
+abbrev pub run_files : RunWords → List (List ℕ)
+run_files w = w.image ∷ w.facts ∷ w.machine ∷ w.start ∷ []
 
--- the words that name an entry
-abbrev pub entry_words : Option (List ℕ) → List (List ℕ)
-entry_words None = []
-entry_words (Some name) = codes "entry" ∷ name ∷ []
+-- the report of the run of at most so many instructions, judged by these rules
+abbrev pub report_in : Inputs → Rules → ℕ → Start → ℕ → Report
+report_in inputs rules entry begin steps = report_of (run_of inputs.machine inputs.image rules entry begin steps)
 
--- the words are `run` with these; the number is written without leading zeros, and is not too large
-pub record IsRun (words : List (List ℕ)) (w : RunWords) : Type 0 where
-  pub are : words ≡ (codes "run" ∷ w.image ∷ w.facts ∷ w.machine ∷ w.start ∷ decimal w.steps ∷ []) ++ entry_words w.entry
-  pub few : w.steps ≤ most_steps
+-- The reply that the contents of the files call for: stage by stage the first refusal, or the report of the run.
+abbrev pub RunReply : RunWords → InputTexts → List ℕ → Reply → Type 0
+RunReply w texts start said =
+    Then (AreTold texts) (IsInputsRefusal texts)
+    (λ inputs.
+    Then (IsEntryOf inputs.image w.entry) (IsEntryRefusal inputs.image w.entry)
+    (λ entry.
+    Then (IsStartTold inputs.image inputs.machine entry start) (IsStartRefusal inputs.image inputs.machine start)
+    (λ begin.
+    Then (IsSoundProgram inputs entry) (IsFlowRefusal inputs entry)
+    (λ program report. report ≡ reply.Ran (report_in inputs (rules_of inputs.facts program) entry begin w.steps)))))
+    said
 
--- where the run begins: at the image's entry, or at the value of the symbol that is named
-abbrev pub IsEntryOf : Image → Option (List ℕ) → ℕ → Type 0
-IsEntryOf image None entry = entry ≡ image.entry
-IsEntryOf image (Some name) entry = symbol_value image.symbols name ≡ Some entry
+-- the same of the contents of the command's files in a list
+abbrev pub RunReplies : RunWords → List (List ℕ) → Reply → Type 0
+RunReplies w (image ∷ facts ∷ machine ∷ start ∷ []) said = RunReply w (record { image = image; facts = facts; machine = machine }) start said
+RunReplies w _ said = ⊥
 
--- what the first texts say: the image
-pub record IsImageOf (bytes : List ℕ) (image : Image) : Type 0 where
-  pub faultless : elf.Passes 11 bytes
-  pub read : image ≡ image_of bytes
-
--- and the facts
-pub record AreRead (files : RunFiles) (image : Image) (facts : Facts) : Type 0 where
-  pub image_is : IsImageOf files.image image
-  pub facts_are : ffx.AreFactsOf files.facts image.symbols facts
-
--- and the machine
-pub record IsSetUp (files : RunFiles) (image : Image) (facts : Facts) (machine : Machine) : Type 0 where
-  pub read : AreRead files image facts
-  pub described : machine_desc.IsDescription files.machine machine
-
--- and the entry
-pub record IsPlaced (files : RunFiles) (w : RunWords) (image : Image) (facts : Facts) (machine : Machine) (entry : ℕ) : Type 0 where
-  pub set_up : IsSetUp files image facts machine
-  pub entry_is : IsEntryOf image w.entry entry
-
--- and the start, whose registers are sixteen and whose cache is one of the machine's
-pub record IsReady (files : RunFiles) (w : RunWords) (image : Image) (facts : Facts) (machine : Machine) (entry : ℕ) (begin : Start) : Type 0 where
-  pub placed : IsPlaced files w image facts machine entry
-  pub told : start.IsToldBy image machine.shape entry files.start begin
-  pub registers : length begin.cpu.regs ≡ 16
-  pub cache : IsCache machine.shape begin.cache.lists
-
--- The cause of each reply to `run`, once the files are read: each refusal where all before it are passed and its own cause is the first
--- of its kind; and the report of the run of at most so many instructions, judged by the rules of image, facts and entry.
-pub data IsRunReply (files : RunFiles) (w : RunWords) : Reply → Type 0 where
-  bad_image : {e : _} → elf.IsFirstCause files.image e → IsRunReply files w (reply.BadImage e)
-  bad_facts : {e : _} (image : Image) → IsImageOf files.image image → ffx.IsCause files.facts image.symbols e → IsRunReply files w (reply.BadFacts e)
-  bad_machine : {e : _} (image : Image) (facts : Facts) → AreRead files image facts → machine_desc.IsFirstCause files.machine e → IsRunReply files w (reply.BadMachine e)
-  no_entry : {name : List ℕ} (image : Image) (facts : Facts) (machine : Machine) → IsSetUp files image facts machine
-      → w.entry ≡ Some name → symbol_value image.symbols name ≡ None → IsRunReply files w (reply.NoEntry name)
-  bad_start : {e : _} (image : Image) (facts : Facts) (machine : Machine) (entry : ℕ) → IsPlaced files w image facts machine entry
-      → start.IsRefusal image machine.shape files.start e → e ≢ start_error.NoMemory → IsRunReply files w (reply.BadStart e)
-  bad_flow : {e : _} (image : Image) (facts : Facts) (machine : Machine) (entry : ℕ) (begin : Start) → IsReady files w image facts machine entry begin
-      → flow.IsFirst image facts entry machine e → IsRunReply files w (reply.BadFlow e)
-  ran : (image : Image) (facts : Facts) (machine : Machine) (entry : ℕ) (begin : Start) (rules : Rules) → IsReady files w image facts machine entry begin
-      → ((e : _) → flow.IsCause image facts entry machine e → ⊥) → AreRules image facts entry rules
-      → IsRunReply files w (reply.Ran (report_of (run_of machine image rules entry (start_of image begin) w.steps)))
-
--- the cause of each reply to the words of `run`
-pub data RunCause (holds : Option Contents) (before after : ℕ) (w : RunWords) (said : Reply) : Type 0 where
-  unread : IsSomeUnread holds before after (files_of w) said → RunCause holds before after w said
-  replied : (files : RunFiles) → AreContents holds w files → IsRunReply files w said → RunCause holds before after w said
+-- What the statuses of a run say: the words are `run` and what it names; the contents of its files tell an image, facts, a machine, an
+-- entry and a start; nothing stands against the image with the facts; the sink took the line with the report of the run of at most
+-- so many instructions from there, judged by the rules of image, facts and entry; and the status is that of the report.
+pub record ReportsRun (holds : Option Contents) (words : List (List ℕ)) (taken taken' : Option (List ℕ)) (status : ℕ) : Type 0 where
+  pub w : RunWords
+  pub texts : InputTexts
+  pub start : List ℕ
+  pub inputs : Inputs
+  pub entry : ℕ
+  pub begin : Start
+  pub rules : Rules
+  pub form : IsRun words w
+  pub contents : AreContents holds (run_files w) (texts.image ∷ texts.facts ∷ texts.machine ∷ start ∷ [])
+  pub told : AreTold texts inputs
+  pub entered : IsEntryOf inputs.image w.entry entry
+  pub begins : IsStartTold inputs.image inputs.machine entry start begin
+  pub sound : (e : FlowError) → IsCause inputs.image inputs.facts entry inputs.machine e → ⊥
+  pub judged : AreRules inputs.image inputs.facts entry rules
+  pub took : Took taken taken' (text_of (reply.Ran (report_in inputs rules entry begin w.steps)))
+  pub ends : status ≡ run_status (report_in inputs rules entry begin w.steps).end

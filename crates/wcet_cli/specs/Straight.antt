@@ -7,8 +7,8 @@ use Rattle.wx_base.specs.Instruction.{AluImmediate, Svc, kind_of, condition, opc
 use Rattle.arm_code.specs.declared.insn.Op.{Op}
 use Rattle.arm_code.specs.declared.insn.Op.TheVariants as op
 use Rattle.arm_code.specs.declared.insn.Operand.TheVariants as operand
-use Rattle.wcet_cli.specs.declared.straight.Role.{Role}
-use Rattle.wcet_cli.specs.declared.straight.Role.TheVariants.{Plain, Last}
+use Rattle.wcet_cli.specs.declared.commands.straight.Role.{Role}
+use Rattle.wcet_cli.specs.declared.commands.straight.Role.TheVariants.{Plain, Last}
 use Rattle.wx_base.specs.Recurrence.{Entry, past_of, completion}
 use Rattle.wx_base.specs.declared.image.Image.{Image}
 use Rattle.wx_base.specs.Image.{code_image}
@@ -101,9 +101,21 @@ bound_of machine words = completion [] (past_of machine [] (reverse (map missing
 abbrev pub image_of : List ℕ → Image
 image_of words = code_image origin (bytes_of words)
 
--- Every run of the image on the machine, from every start, that obeys the rules, whatever they are, and however many
--- instructions it has, takes at most so many cycles.
+-- Every run of the image on the machine, from every start, whatever rules its moves are judged by, and however many instructions it
+-- has, takes at most so many cycles.
 abbrev pub EachRunTakesAtMost : Machine → Image → ℕ → ℕ → Type 0
 EachRunTakesAtMost machine image entry cycles =
     (rules : Rules) (start : Start) (n : ℕ) → IsStart machine image entry start →
-    Obeys (run_of machine image rules entry start n) → time_of (run_of machine image rules entry start n) ≤ cycles
+    time_of (run_of machine image rules entry start n) ≤ cycles
+
+-- Every such run obeys rules that list no function, as those of no facts: it is cut off by no move.
+abbrev pub EachRunObeys : Machine → Image → ℕ → Type 0
+EachRunObeys machine image entry =
+    (rules : Rules) (start : Start) (n : ℕ) → rules.functions ≡ [] → IsStart machine image entry start →
+    Obeys (run_of machine image rules entry start n)
+
+-- whatever the machine, every run of a straight program obeys rules that list no function
+abbrev pub StraightRunsObey : Type 0
+StraightRunsObey =
+    (machine : Machine) (bytes program : List ℕ) → length bytes ≤ 16777216 → IsProgram bytes program →
+    EachRunObeys machine (image_of program) origin

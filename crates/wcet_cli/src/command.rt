@@ -1,12 +1,12 @@
 //! What the words of a command say.
 
 ghost use Rattle.std.specs.Prelude.{◌≡◌, ◌↔◌, ◌≤◌, ℕ, List, IsTrue, IfSome, MatchOption, Some, map, string_bytes, option_copied};
-ghost use Rattle.wx_base.specs.Decimal.{decimal};
-ghost use Rattle.wcet_cli.specs.Command.{FitsForm, IsCommand, IsFlat, run_words};
-ghost use Rattle.wcet_cli.specs.RunCommand.{IsRun, entry_words, most_steps};
-ghost use Rattle.wcet_cli.specs.Files.{RunWords};
+ghost use Rattle.wx_text.specs.Decimal.{decimal};
+ghost use Rattle.wcet_cli.specs.Words.{IsFlat, IsRun, entry_words, most_steps, RunWords};
+ghost use Rattle.wcet_cli.specs.Commands.{FitsForm, IsForm, form_of, run_words};
 
-use start_file::read_number;
+use wcet_front::InputNames;
+use wx_text::read_number;
 
 /// The most instructions that a run may be given.
 const MOST_STEPS: u32 = 1_000_000_000;
@@ -23,12 +23,8 @@ pub enum Command<'a> {
 /// What the words of `run` name.
 #[derive(Clone, Copy)]
 pub struct RunCommand<'a> {
-    /// The name of the image's file.
-    pub image: &'a str,
-    /// The name of the facts' file.
-    pub facts: &'a str,
-    /// The name of the file that describes the machine.
-    pub machine: &'a str,
+    /// The names of the files of the image, the facts and the machine.
+    pub inputs: InputNames<'a>,
     /// The name of the start text's file.
     pub start: &'a str,
     /// The most instructions to execute.
@@ -39,7 +35,8 @@ pub struct RunCommand<'a> {
 
 /// The command that the words are; None exactly where they fit no form.
 pub fn command_of(words: &[String]) -> Option<Command<'_>>
-    ensures { MatchOption result (¬ FitsForm (map string_bytes words.now)) (IsCommand (map string_bytes words.now)) }
+    ensures { let said = map string_bytes words.now in
+        MatchOption result (¬ FitsForm said) (λ command. IsForm said (form_of command)) }
 {
     if let Some(code) = flat_code(words) {
         return Some(Command::Flat { code });
@@ -50,7 +47,8 @@ pub fn command_of(words: &[String]) -> Option<Command<'_>>
 
 /// The name of the file, where the words are `flat` and a name.
 fn flat_code(words: &[String]) -> Option<&str>
-    ensures { MatchOption result ((name : List ℕ) → ¬ IsFlat (map string_bytes words.now) name) (λ code. IsFlat (map string_bytes words.now) code.now) }
+    ensures { let said = map string_bytes words.now in
+        MatchOption result ((name : List ℕ) → ¬ IsFlat said name) (λ code. IsFlat said code.now) }
 {
     let [name, code] = words else {
         return None;
@@ -64,7 +62,8 @@ fn flat_code(words: &[String]) -> Option<&str>
 
 /// What the words name, where they are those of `run`.
 fn run_command(words: &[String]) -> Option<RunCommand<'_>>
-    ensures { MatchOption result ((w : RunWords) → ¬ IsRun (map string_bytes words.now) w) (λ run. IsRun (map string_bytes words.now) (run_words run)) }
+    ensures { let said = map string_bytes words.now in
+        MatchOption result ((w : RunWords) → ¬ IsRun said w) (λ run. IsRun said (run_words run)) }
 {
     let [verb, image, facts, machine, start, steps, behind @ ..] = words else {
         return None;
@@ -74,10 +73,13 @@ fn run_command(words: &[String]) -> Option<RunCommand<'_>>
     }
     let steps = steps_in(steps.as_str())?;
     let entry = entry_in(behind)?;
-    Some(RunCommand {
+    let inputs = InputNames {
         image: image.as_str(),
         facts: facts.as_str(),
         machine: machine.as_str(),
+    };
+    Some(RunCommand {
+        inputs,
         start: start.as_str(),
         steps,
         entry,
@@ -99,7 +101,9 @@ fn steps_in(word: &str) -> Option<u64>
 
 /// The name of the entry, if one is given, where the words are nothing or `entry` and a name.
 fn entry_in(words: &[String]) -> Option<Option<&str>>
-    ensures { MatchOption result ((entry : _) → ¬ (map string_bytes words.now ≡ entry_words entry)) (λ entry. map string_bytes words.now ≡ entry_words (option_copied entry)) }
+    ensures { let said = map string_bytes words.now in
+        MatchOption result ((entry : _) → ¬ (said ≡ entry_words entry))
+        (λ entry. said ≡ entry_words (option_copied entry)) }
 {
     if words.is_empty() {
         return Some(None);

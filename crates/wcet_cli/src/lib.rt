@@ -1,53 +1,43 @@
 //! The top call of the analyser: from the words of a command to its line and its status.
 #![tactic(auto)]
 
-ghost use Rattle.std.specs.Prelude.{◌≡◌, ◌≢◌, ◌≤◌, ◌<◌, ◌+◌, ◌⊎◌, ℕ, List, map, string_bytes, Some, IfOk};
+ghost use Rattle.std.specs.Prelude.{◌≡◌, ◌≤◌, ◌<◌, ◌+◌, ◌⊎◌, ℕ, List, [], map, string_bytes, length, Ok, Err, Some, IfOk, OnErr};
 ghost use Rattle.wx_base.specs.Machine.{m1, IsMachine};
-ghost use Rattle.wx_base.specs.Outside.{Contents, Rose};
-ghost use Rattle.wcet_cli.specs.Command.{FitsForm};
-ghost use Rattle.wcet_cli.specs.Call.{HasCause, IsAnswer, IsSaid, HandsOver, AnswersBound, ReportsRun, ReadsNothing, RefusesImage, RefusesRun, IsNoRun, IsOfRun, IsTooLarge, EndsWith};
-ghost use Rattle.wcet_cli.specs.Files.{input_files};
-ghost use Rattle.wcet_cli.specs.Flat.{IsNoFault};
+ghost use Rattle.wx_host.specs.Outside.{Contents, Rose};
+ghost use Rattle.wcet_front.specs.Files.{read_log, reads_between};
+ghost use Rattle.wcet_front.specs.Handing.{HandsOver};
+ghost use Rattle.wcet_front.specs.Reply.{IsNoFault};
+ghost use Rattle.wcet_front.specs.Stages.{Answers, OnStarved};
+ghost use Rattle.wcet_cli.specs.Call.{HasCause, IsAnswer, IsDue, IsStarved, IsTooLarge, ReadsNothing, Refuses, EndsWith};
+ghost use Rattle.wcet_cli.specs.Commands.{AreNamed, FitsForm};
+ghost use Rattle.wcet_cli.specs.FlatCommand.{AnswersBound};
+ghost use Rattle.wcet_cli.specs.RunCommand.{ReportsRun};
 
 mod command;
-mod files;
-mod flat;
-mod handing;
+mod commands;
 mod laws;
-mod reply;
-mod run;
-#[cfg(test)]
-mod run_tests;
-mod stages;
-mod status;
-mod stop;
-mod straight;
-#[cfg(test)]
-mod tests;
 
 use crate::command::{Command, command_of};
-use crate::handing::hand_over;
-use crate::reply::Reply;
-use crate::status::STARVED;
-pub use laws::one_reply_is_due;
+use crate::commands::{flat, run};
+pub use laws::{one_reply_is_due, straight_runs_obey};
 use pipe_time::worse_is_no_faster;
 use std::alloc::Global;
+use wcet_front::{Reply, Stop, say, say_memory};
 use wx_base::{Machine, NoMemory, Sink, Store};
-
-/// What is said where memory is wanting.
-const MEMORY_LINE: &[u8] = b"memory\n";
 
 /// Runs the command that the words are, over files and an output, and answers the status.
 ///
 /// `flat CODE` reads a file of little-endian words, places them from address 0x8000 on, and says `bound B`: no run of
-/// the words up to the first call of the supervisor takes more than B cycles on the machine of [`wx_base::Machine::m1`].
+/// the words up to the first call of the supervisor takes more than B cycles on the machine of
+/// [`wx_base::Machine::m1`].
 ///
-/// `run IMAGE FACTS MACHINE START N`, perhaps with `entry NAME` behind it, reads an executable, flow facts, a machine description and
-/// a start file, and says what the one run that they tell comes to within N instructions: its time in cycles, how many instructions
-/// it executed and how it ended, or the first fact that it breaks.
+/// `run IMAGE FACTS MACHINE START N`, perhaps with `entry NAME` behind it, reads an executable, flow facts, a machine
+/// description and a start file, and says what the one run that they tell comes to within N instructions: its time in
+/// cycles, how many instructions it executed and how it ended, or the first fact that it breaks.
 ///
-/// The text is made whole before its first piece is put. `flat` is linear in the length of its file; `run` takes the time of the readers
-/// of its files, of `build` of `flow_graph`, and of at most N steps.
+/// Files are read in the order of the words, and the first that cannot be read decides. The text is made whole before
+/// its first piece is put. `flat` is linear in the length of its file; `run` takes the time of the readers of its files,
+/// of `build` of `flow_graph`, and of at most N steps.
 ///
 /// | status | line | when |
 /// |---|---|---|
@@ -56,7 +46,7 @@ const MEMORY_LINE: &[u8] = b"memory\n";
 /// | 1 | `usage` | the words fit no form |
 /// | 2 | `read NAME`, `missing NAME` | the store failed, or does not hold the file |
 /// | 3 | | the output failed; a front of the text may have been put |
-/// | 4 | `image REFUSAL FIELDS`, `image NoEntry NAME` | the image, or its flow, is refused, or it has no such symbol; of `flat`, the words lead to no word, or to one outside the subset |
+/// | 4 | `image REFUSAL FIELDS`, `image NoEntry NAME` | the image, or its flow, is refused, or it has no such symbol; of `flat`, the words lead to no word, or to one that no straight program has |
 /// | 5 | `facts REFUSAL FIELDS` | the facts are refused |
 /// | 6 | `machine REFUSAL FIELDS` | the description is refused |
 /// | 9 | `memory` | want of memory |
@@ -64,36 +54,39 @@ const MEMORY_LINE: &[u8] = b"memory\n";
 /// | 11 | `breaks FACT ADDR STEPS` | the run breaks a fact |
 /// | 12 | `start line L`, `start set S` | the start file is refused |
 pub fn wcet<S: Store, O: Sink>(alloc: Global, words: &[String], store: &mut S, out: &mut O) -> u8
-    // The status and the text are those of a reply that has its cause, or want of memory; and the text was handed over,
-    // or the sink failed, or memory was wanting.
-    ensures answer { (status : ℕ) × (text : List ℕ)
-        × IsAnswer (S.holds store.old) (S.read_faults store.old) (S.read_faults store.new) (map string_bytes words.now) status text
+    // The status and the text are those of a reply that has its cause, or want of memory; which files were asked for is part of the
+    // cause. The text was handed over, or the sink failed, or memory was wanting.
+    ensures answer { let before = read_log (S.read_faults store.old) (S.read_names store.old) in
+        let after = read_log (S.read_faults store.new) (S.read_names store.new) in
+        let reads = reads_between (S.holds store.old) before after in
+        (status : ℕ) × (text : List ℕ) × IsAnswer reads (map string_bytes words.now) status text
         × HandsOver (O.taken out.old) (O.taken out.new) (O.faults out.old) (O.faults out.new) status text result }
 
     // What each status says.
-    ensures answered { result ≡ 0 → AnswersBound (S.holds store.old) (map string_bytes words.now) (O.taken out.old) (O.taken out.new)
-        ⊎ ReportsRun (S.holds store.old) (map string_bytes words.now) (O.taken out.old) (O.taken out.new) 0 }
+    ensures answered { let said = map string_bytes words.now in
+        result ≡ 0 → AnswersBound (S.holds store.old) said (O.taken out.old) (O.taken out.new)
+        ⊎ ReportsRun (S.holds store.old) said (O.taken out.old) (O.taken out.new) 0 }
     ensures misused { result ≡ 1 → ¬ FitsForm (map string_bytes words.now) }
-    ensures unread { result ≡ 2 → ReadsNothing (S.holds store.old) (S.read_faults store.old) (S.read_faults store.new) (map string_bytes words.now) }
+    ensures unread { let before = read_log (S.read_faults store.old) (S.read_names store.old) in
+        let after = read_log (S.read_faults store.new) (S.read_names store.new) in
+        let reads = reads_between (S.holds store.old) before after in
+        result ≡ 2 → ReadsNothing reads (map string_bytes words.now) }
     ensures unwritten { result ≡ 3 → Rose (O.faults out.old) (O.faults out.new) }
-    ensures refused_image { result ≡ 4 → RefusesImage (S.holds store.old) (map string_bytes words.now) ⊎ RefusesRun (S.holds store.old) (map string_bytes words.now) 4 }
-    ensures refused_facts { result ≡ 5 → RefusesRun (S.holds store.old) (map string_bytes words.now) 5 }
-    ensures refused_machine { result ≡ 6 → RefusesRun (S.holds store.old) (map string_bytes words.now) 6 }
-    ensures too_large { result ≡ 10 → IsTooLarge (S.holds store.old) (map string_bytes words.now) }
-    ensures breaks_fact { result ≡ 11 → ReportsRun (S.holds store.old) (map string_bytes words.now) (O.taken out.old) (O.taken out.new) 11 }
-    ensures refused_start { result ≡ 12 → RefusesRun (S.holds store.old) (map string_bytes words.now) 12 }
+    ensures refused_image { result ≡ 4 → Refuses (S.holds store.old) (map string_bytes words.now) 4 }
+    ensures refused_facts { result ≡ 5 → Refuses (S.holds store.old) (map string_bytes words.now) 5 }
+    ensures refused_machine { result ≡ 6 → Refuses (S.holds store.old) (map string_bytes words.now) 6 }
+    ensures too_large { let before = read_log (S.read_faults store.old) (S.read_names store.old) in
+        let after = read_log (S.read_faults store.new) (S.read_names store.new) in
+        let reads = reads_between (S.holds store.old) before after in
+        result ≡ 10 → IsTooLarge reads (map string_bytes words.now) }
+    ensures breaks_fact { let said = map string_bytes words.now in
+        result ≡ 11 → ReportsRun (S.holds store.old) said (O.taken out.old) (O.taken out.new) 11 }
+    ensures refused_start { result ≡ 12 → Refuses (S.holds store.old) (map string_bytes words.now) 12 }
 
-    // And when it comes, of words that are not of the form of `run`: a reply that has its cause is the one that is given, unless
-    // memory is wanting, where the store tells its contents and no fault of store or sink rose, or none can.
-    ensures due { (contents : Contents) (due : Reply) → IsNoRun (map string_bytes words.now) → S.holds store.old ≡ Some contents
-        → HasCause (Some contents) 0 0 (map string_bytes words.now) due → IsNoFault due
-        → (S.reliable store.old ⊎ (¬ Rose (S.read_faults store.old) (S.read_faults store.new)))
-        → (O.reliable out.old ⊎ (¬ Rose (O.faults out.old) (O.faults out.new)))
-        → EndsWith (O.taken out.old) (O.taken out.new) due result }
-
-    // The same of words that are of the form of `run`.
-    ensures run_due { (contents : Contents) (due : Reply) → IsOfRun (map string_bytes words.now) → S.holds store.old ≡ Some contents
-        → HasCause (Some contents) 0 0 (map string_bytes words.now) due → IsNoFault due
+    // And when it comes: the reply that is due is the one that is given, unless memory is wanting, where the store tells its contents
+    // and no fault of store or sink rose, or none can.
+    ensures due { (contents : Contents) (due : Reply) → S.holds store.old ≡ Some contents
+        → IsDue contents (map string_bytes words.now) due
         → (S.reliable store.old ⊎ (¬ Rose (S.read_faults store.old) (S.read_faults store.new)))
         → (O.reliable out.old ⊎ (¬ Rose (O.faults out.old) (O.faults out.new)))
         → EndsWith (O.taken out.old) (O.taken out.new) due result }
@@ -101,16 +94,18 @@ pub fn wcet<S: Store, O: Sink>(alloc: Global, words: &[String], store: &mut S, o
 
     // What stays: no name changes, and a call reads no more files than its words name.
     ensures holds { S.holds store.new ≡ S.holds store.old }
-    ensures asked { S.asked store.new ≤ S.asked store.old + input_files }
-    ensures asked_once { IsNoRun (map string_bytes words.now) → S.asked store.new ≤ S.asked store.old + 1 }
+    ensures asked { (names : List (List ℕ)) → AreNamed (map string_bytes words.now) names
+        → S.asked store.new ≤ S.asked store.old + length names }
+    ensures asked_few { S.asked store.new ≤ S.asked store.old + 4 }
     ensures unasked { ¬ FitsForm (map string_bytes words.now) → S.asked store.new ≡ S.asked store.old }
+    ensures write_names { S.write_names store.new ≡ S.write_names store.old }
     ensures write_faults { S.write_faults store.new ≡ S.write_faults store.old }
 {
     worse_is_no_faster();
     m1_is_in_range(alloc);
-    match reply_to(alloc, words, store) {
-        Ok(reply) => say(alloc, &reply, out),
-        Err(NoMemory) => hand_over(out, STARVED, MEMORY_LINE),
+    match settled(answer_to(alloc, words, store)) {
+        Ok(reply) => say(alloc, reply, out),
+        Err(NoMemory) => say_memory(out),
     }
 }
 
@@ -121,18 +116,26 @@ fn m1_is_in_range(alloc: Global)
     let _machine = Machine::m1(alloc);
 }
 
-/// The reply to the words of a command.
-fn reply_to<S: Store>(alloc: Global, words: &[String], store: &mut S) -> Result<Reply, NoMemory>
-    ensures cause { IfOk result (HasCause (S.holds store.old) (S.read_faults store.old) (S.read_faults store.new) (map string_bytes words.now)) }
-    ensures run_due { (contents : Contents) (due : Reply) → IsOfRun (map string_bytes words.now) → S.holds store.old ≡ Some contents
-        → HasCause (Some contents) 0 0 (map string_bytes words.now) due → IsNoFault due → IfOk result (λ reply. IsNoFault reply → reply ≡ due) }
+/// The reply to the words of a command, or why there is none.
+fn answer_to<S: Store>(alloc: Global, words: &[String], store: &mut S) -> Result<Reply, Stop>
+    ensures cause { let before = read_log (S.read_faults store.old) (S.read_names store.old) in
+        let after = read_log (S.read_faults store.new) (S.read_names store.new) in
+        let reads = reads_between (S.holds store.old) before after in
+        Answers (HasCause reads (map string_bytes words.now)) result }
+    ensures starved { let before = read_log (S.read_faults store.old) (S.read_names store.old) in
+        let after = read_log (S.read_faults store.new) (S.read_names store.new) in
+        let reads = reads_between (S.holds store.old) before after in
+        OnStarved result (IsStarved reads (map string_bytes words.now)) }
+    ensures due { (contents : Contents) (due : Reply) → S.holds store.old ≡ Some contents
+        → IsDue contents (map string_bytes words.now) due → Answers (λ said. IsNoFault said → said ≡ due) result }
     ensures holds { S.holds store.new ≡ S.holds store.old }
-    ensures asked { S.asked store.new ≤ S.asked store.old + input_files }
-    ensures asked_once { IsNoRun (map string_bytes words.now) → S.asked store.new ≤ S.asked store.old + 1 }
+    ensures asked { (names : List (List ℕ)) → AreNamed (map string_bytes words.now) names
+        → S.asked store.new ≤ S.asked store.old + length names }
+    ensures asked_few { S.asked store.new ≤ S.asked store.old + 4 }
     ensures unasked { ¬ FitsForm (map string_bytes words.now) → S.asked store.new ≡ S.asked store.old }
+    ensures write_names { S.write_names store.new ≡ S.write_names store.old }
     ensures write_faults { S.write_faults store.new ≡ S.write_faults store.old }
-    ensures reliable { S.reliable store.old → S.reliable store.new }
-    ensures sound { S.reliable store.old → IfOk result IsNoFault }
+    ensures sound { S.reliable store.old → Answers IsNoFault result }
 {
     match command_of(words) {
         Some(Command::Flat { code }) => flat::flat(alloc, code, store),
@@ -141,14 +144,14 @@ fn reply_to<S: Store>(alloc: Global, words: &[String], store: &mut S) -> Result<
     }
 }
 
-/// Hands a reply over to the output, and answers the status.
-fn say<O: Sink>(alloc: Global, reply: &Reply, out: &mut O) -> u8
-    ensures answer { (status : ℕ) × (text : List ℕ) × IsSaid reply.now status text
-        × HandsOver (O.taken out.old) (O.taken out.new) (O.faults out.old) (O.faults out.new) status text result }
-    ensures sound { O.reliable out.old → result ≢ 3 }
+/// The reply with which a command goes no further is its reply.
+fn settled(answer: Result<Reply, Stop>) -> Result<Reply, NoMemory>
+    ensures replied { IfOk result (λ reply. (answer ≡ Ok reply) ⊎ (answer ≡ Err (Stop.Replied reply))) }
+    ensures starved { OnErr result (answer ≡ Err Stop.NoMemory) }
 {
-    match reply.line(alloc) {
-        Ok(text) => hand_over(out, reply.status(), text.as_slice()),
-        Err(NoMemory) => hand_over(out, STARVED, MEMORY_LINE),
+    match answer {
+        Ok(reply) => Ok(reply),
+        Err(Stop::Replied { reply }) => Ok(reply),
+        Err(Stop::NoMemory) => Err(NoMemory),
     }
 }

@@ -1,8 +1,9 @@
 -- What is reached of an image, and its functions with their loops, by the ways and calls of its instructions. This project's
 -- own.
-use Rattle.std.specs.Prelude.{◌≡◌, ◌<◌, ℕ, ◌==◌, ◌++◌, true, List, [], if◌then◌else◌, AllPairs, All, Any, Contains, ◌⊎◌, Option, Some, None, find, option_map, option_to_list}
+use Rattle.std.specs.Prelude.{◌≡◌, ◌<◌, ℕ, ◌==◌, ◌++◌, true, List, [], if◌then◌else◌, AllPairs, All, Any, Contains, ◌⊎◌, Option, Some, None, find, option_to_list}
 use Rattle.std.specs.Option.{option_map_or}
 use Rattle.wx_base.specs.declared.facts.Facts.{Facts}
+use Rattle.wx_base.specs.declared.facts.LoopFact.{LoopFact}
 use Rattle.wx_base.specs.declared.flow.FlowKind.{FlowKind}
 use Rattle.wx_base.specs.declared.image.Image.{Image}
 use Rattle.wx_base.specs.Facts.{targets_of, AreAscending}
@@ -58,14 +59,18 @@ pub record IsRecursive (image : Image) (facts : Facts) (site : ℕ) : Type 0 whe
   pub callee : Contains (callees_at image facts site) entry
   pub path : Path (leads_at image facts) [] entry site
 
--- how often, by the facts, the back edges into a head may be taken in one stay, if a fact names it
-abbrev pub bound_of : Facts → ℕ → Option ℕ
-bound_of facts head = option_map (λ fact. fact.maxcount) (find (λ fact. fact.address == head) facts.loops)
+-- what the facts say of the back edges into a head, if one names it
+abbrev pub fact_of : Facts → ℕ → Option LoopFact
+fact_of facts head = find (λ fact. fact.address == head) facts.loops
 
--- a loop of the function that begins at an entry, its members in the order of addresses, with the bound of the fact on its head
+-- the fact on a loop's head, with the loop's own bounds
+abbrev pub fact_on : BoundedLoop → LoopFact
+fact_on loop = record { address = loop.head; maxcount = loop.maxcount; totalcount = loop.totalcount }
+
+-- a loop of the function that begins at an entry, its members in the order of addresses, with the bounds of the fact on its head
 pub record IsLoop (image : Image) (facts : Facts) (entry : ℕ) (loop : BoundedLoop) : Type 0 where
   pub head : IsHead (ways_at image facts) entry loop.head
-  pub bound : bound_of facts loop.head ≡ Some loop.maxcount
+  pub bounds : fact_of facts loop.head ≡ Some (fact_on loop)
   pub ascending : AreAscending loop.members
   pub members : (a : ℕ) → Contains loop.members a → IsMember (ways_at image facts) entry loop.head a
   pub whole : (a : ℕ) → IsMember (ways_at image facts) entry loop.head a → Contains loop.members a
@@ -83,8 +88,8 @@ pub record AreFunctions (image : Image) (facts : Facts) (start : ℕ) (functions
   pub loops : All (λ f. AreLoops image facts f.entry f.loops) functions
   pub whole : (entry : ℕ) → IsEntry image facts start entry → Any (λ f. f.entry ≡ entry) functions
 
--- What the runs of an image from a start are judged by. There is at most one such, and there is one exactly if a fact names each
--- head of each function.
+-- What the runs of an image from a start are judged by. There is at most one such, and none where no fact names some head of a
+-- function.
 pub record AreRules (image : Image) (facts : Facts) (start : ℕ) (rules : Rules) : Type 0 where
   pub branches : rules.branches ≡ facts.branches
   pub calls : rules.calls ≡ facts.calls

@@ -1,11 +1,3 @@
-pub mod Outside
-pub mod Outages
-pub mod MemSink
-pub mod MemStore
-pub mod Host
-pub mod Decimal
-pub mod Hexadecimal
-pub mod Cursor
 pub mod Symbols
 pub mod Bits
 pub mod Machine
@@ -20,8 +12,10 @@ pub mod State
 pub mod Transfer
 pub mod Step
 pub mod Cache
+pub mod CacheStates
 pub mod Recurrence
 pub mod Vector
+pub mod Blocks
 pub mod Monitor
 pub mod Paths
 pub mod Functions

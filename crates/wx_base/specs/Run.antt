@@ -1,8 +1,8 @@
 -- Runs of an image on the written machine, and how long they take. This project's own.
-use Rattle.std.specs.Prelude.{◌≡◌, ◌≢◌, ℕ, zero, suc, ◌<◌, ◌^◌, Bool, false, not, if◌then◌else◌, List, [], ◌∷◌, slice_index, Option, Some, None, Result, Ok, Err}
+use Rattle.std.specs.Prelude.{◌≡◌, ◌≢◌, ℕ, zero, suc, ◌<◌, ◌^◌, Bool, false, not, if◌then◌else◌, List, [], ◌∷◌, map, slice_index, Option, Some, None, Result, Ok, Err}
 use Rattle.wx_base.specs.declared.machine.Machine.{Machine}
 use Rattle.wx_base.specs.declared.fact_kind.FactKind.{FactKind}
-use Rattle.wx_base.specs.declared.fact_kind.FactKind.TheVariants.{Branch, Call, Return, Loop}
+use Rattle.wx_base.specs.declared.fact_kind.FactKind.TheVariants.{Branch, Call, Return, Loop, Total}
 use Rattle.wx_base.specs.declared.image.Image.{Image}
 use Rattle.wx_base.specs.Image.{byte_of}
 use Rattle.wx_base.specs.declared.step.Why.{Why}
@@ -11,7 +11,7 @@ use Rattle.wx_base.specs.Step.{current_word, step}
 use Rattle.wx_base.specs.Cache.{Lines, IsCache, line_of, holds_line, accessed}
 use Rattle.wx_base.specs.Recurrence.{Entry, Done, next, completion}
 use Rattle.wx_base.specs.Flow.{flow_of}
-use Rattle.wx_base.specs.Monitor.{Rules, Frame, first_frame, executed_at, judged, leaves}
+use Rattle.wx_base.specs.Monitor.{Rules, Watch, first_watch, executed_at, judged, leaves}
 
 -- a start: registers, flags and memory, and the instruction cache
 pub record Start : Type 0 where
@@ -36,15 +36,23 @@ pub data End : Type 0 where
   -- the move to the next instruction breaks a rule
   Broken : FactKind → End
 
--- A run so far: where it is; what it has executed and at which addresses, the last instruction first; the frames of its
--- open calls, and of the start; and its end if it has come to one.
+-- an instruction that a run executed: its address, and what the pipeline made of it
+pub record Executed : Type 0 where
+  pub address : ℕ
+  pub done : Done
+
+-- A run so far: where it is; what it has executed, the last instruction first; what it carries to be judged; and its end if it
+-- has come to one.
 pub record Run : Type 0 where
   pub state : State
   pub cache : Lines
-  pub past : List Done
-  pub addresses : List ℕ
-  pub frames : List Frame
+  pub executed : List Executed
+  pub watch : Watch
   pub end : Option End
+
+-- what the pipeline made of the instructions, without their addresses
+abbrev pub dones : List Executed → List Done
+dones executed = map (λ e. e.done) executed
 
 -- nothing was executed
 abbrev pub begun : ℕ → Start → Run
@@ -52,16 +60,20 @@ begun entry start =
     record {
       state = start.state;
       cache = start.cache;
-      past = [];
-      addresses = [];
-      frames = first_frame entry;
+      executed = [];
+      watch = first_watch entry;
       end = None;
     }
 
--- the frames with which the machine looks at the instruction at pc; a run's first instruction is reached by no move
-abbrev pub frames_before : Rules → List Done → List Frame → ℕ → Result (List Frame) FactKind
-frames_before rules [] frames to = Ok frames
-frames_before rules (i ∷ past) frames to = judged rules frames i.entry to
+-- what the run carries when the machine looks at an instruction, or the rule that the move there breaks; a run's first
+-- instruction is reached by no move
+abbrev pub watch_before : Rules → List Executed → Watch → ℕ → Result Watch FactKind
+watch_before rules [] watch to = Ok watch
+watch_before rules (i ∷ executed) watch to = judged rules watch i.done.entry to
+
+-- the same of the instruction that the run comes to
+abbrev pub watch_at : Rules → Run → Result Watch FactKind
+watch_at rules run = watch_before rules run.executed run.watch (run.state.registers pc)
 
 -- the instruction at pc, as it is executed now
 abbrev pub entry_at : Machine → Run → Bool → Bool → Entry
@@ -74,40 +86,42 @@ entry_at m run taken slow =
     }
 
 -- the run with this instruction executed, the state after it, and the end if it ends the run
-abbrev pub extended : Machine → Run → List Frame → Entry → State → Option End → Run
-extended m run frames e state end =
+abbrev pub extended : Machine → Run → Watch → Entry → State → Option End → Run
+extended m run watch e state end =
     record {
       state = state;
       cache = accessed m.shape run.cache (line_of m.shape (run.state.registers pc));
-      past = record { entry = e; times = next m [] run.past e } ∷ run.past;
-      addresses = run.state.registers pc ∷ run.addresses;
-      frames = executed_at frames (run.state.registers pc);
+      executed =
+          record {
+            address = run.state.registers pc;
+            done = record { entry = e; times = next m [] (dones run.executed) e };
+          } ∷ run.executed;
+      watch = executed_at watch (run.state.registers pc);
       end = end;
     }
 
 -- the end that an instruction makes which went on: a return without an open call ends the run
-abbrev pub end_after : Run → List Frame → Bool → Option End
-end_after run frames taken =
-    if leaves frames (flow_of (current_word run.state) (run.state.registers pc)) taken then Some Finished else None
+abbrev pub end_after : Run → Watch → Bool → Option End
+end_after run watch taken =
+    if leaves watch.frames (flow_of (current_word run.state) (run.state.registers pc)) taken then Some Finished else None
 
 -- the run after the machine looked at the instruction at pc
-abbrev pub after_outcome : Machine → Run → List Frame → Outcome → Run
-after_outcome m run frames (Next went) =
-    extended m run frames (entry_at m run went.taken went.slow) went.state (end_after run frames went.taken)
-after_outcome m run frames Ended = extended m run frames (entry_at m run false false) run.state (Some Finished)
-after_outcome m run frames (Stopped why) = record run { end = Some (Halted why) }
+abbrev pub after_outcome : Machine → Run → Watch → Outcome → Run
+after_outcome m run watch (Next went) =
+    extended m run watch (entry_at m run went.taken went.slow) went.state (end_after run watch went.taken)
+after_outcome m run watch Ended = extended m run watch (entry_at m run false false) run.state (Some Finished)
+after_outcome m run watch (Stopped why) = record run { end = Some (Halted why) }
 
 -- the run after the move to pc was judged
-abbrev pub after_judgement : Machine → Image → Run → Result (List Frame) FactKind → Run
+abbrev pub after_judgement : Machine → Image → Run → Result Watch FactKind → Run
 after_judgement m image run (Err breach) = record run { end = Some (Broken breach) }
-after_judgement m image run (Ok frames) = after_outcome m run frames (step m image run.state)
+after_judgement m image run (Ok watch) = after_outcome m run watch (step m image run.state)
 
 -- one more step of a run; one that has ended stays as it is, so what the machine would do after a move that breaks a rule
 -- belongs to no run
 abbrev pub advanced : Machine → Image → Rules → Run → Option End → Run
 advanced m image rules run (Some end) = run
-advanced m image rules run None =
-    after_judgement m image run (frames_before rules run.past run.frames (run.state.registers pc))
+advanced m image rules run None = after_judgement m image run (watch_at rules run)
 
 -- The run of at most n instructions. It is shorter only where it has come to an end.
 unfoldable pub run_of : Machine → Image → Rules → ℕ → Start → ℕ → Run
@@ -122,11 +136,16 @@ Obeys run = (breach : FactKind) → run.end ≢ Some (Broken breach)
 
 -- how long it takes, in cycles
 abbrev pub time_of : Run → ℕ
-time_of run = completion [] run.past
+time_of run = completion [] (dones run.executed)
+
+-- the address of the instruction executed last
+abbrev pub last_address : Run → ℕ
+last_address run = slice_index (map (λ e. e.address) run.executed) 0
 
 -- the address at which a rule is broken: the head of the loop, which the move leads to, else the instruction that jumped
 abbrev pub breach_address : Run → FactKind → ℕ
 breach_address run Loop = run.state.registers pc
-breach_address run Branch = slice_index run.addresses 0
-breach_address run Call = slice_index run.addresses 0
-breach_address run Return = slice_index run.addresses 0
+breach_address run Total = run.state.registers pc
+breach_address run Branch = last_address run
+breach_address run Call = last_address run
+breach_address run Return = last_address run

@@ -9,4 +9,6 @@ pub enum FactKind {
     Return,
     /// The back edges into a loop's head are taken more often in one stay than the fact on it says.
     Loop,
+    /// The back edges into a loop's head are taken more often in the whole run than the fact on it says.
+    Total,
 }

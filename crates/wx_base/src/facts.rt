@@ -1,44 +1,7 @@
-use std::marker::Model;
+use wx_text::List;
 
 /// Addresses of instructions: contracts see the list.
-#[derive(Debug, Drop)]
-pub struct Addresses {
-    list: Vec<u32>,
-}
-
-impl Model for Addresses {
-    ghost use Rattle.std.specs.Prelude.{ℕ, List};
-
-    ghost Value = { List ℕ };
-
-    ghost view = { λ a. a.list.items };
-}
-
-impl Addresses {
-    ghost use Rattle.std.specs.Prelude.{◌≡◌};
-
-    /// These addresses.
-    pub fn new(list: Vec<u32>) -> Addresses
-        ensures { result ≡ list.items }
-    {
-        Addresses { list }
-    }
-
-    /// The addresses, as the `Vec` that holds them.
-    pub fn into_vec(self) -> Vec<u32>
-        ensures { result.items ≡ self }
-    {
-        let Addresses { list } = self;
-        list
-    }
-
-    /// The addresses.
-    pub fn as_slice(&self) -> &[u32]
-        ensures { result.now ≡ self.now }
-    {
-        &self.list
-    }
-}
+pub type Addresses = List<u32>;
 
 /// How often the back edges of a loop are taken at most.
 #[derive(Clone, Copy, Debug, PartialEq, Eq)]
@@ -47,6 +10,8 @@ pub struct LoopFact {
     pub address: u32,
     /// How often the loop's back edges are taken at most each time that the loop is entered.
     pub maxcount: u32,
+    /// How often back edges of loops with this head are taken at most in a whole run, where a fact says so.
+    pub totalcount: Option<u32>,
 }
 
 /// Where an indirect jump or call goes.
@@ -58,87 +23,11 @@ pub struct TargetFact {
     pub targets: Addresses,
 }
 
-/// Facts on loops, in the order of the loops' heads.
-#[derive(Debug, Drop)]
-pub struct LoopFacts {
-    list: Vec<LoopFact>,
-}
+/// Facts on loops, in the order of the loops' heads: contracts see the list.
+pub type LoopFacts = List<LoopFact>;
 
-impl Model for LoopFacts {
-    ghost use Rattle.std.specs.Prelude.{List};
-    ghost use Rattle.wx_base.specs.declared.facts.LoopFact.{LoopFact};
-
-    ghost Value = { List LoopFact };
-
-    ghost view = { λ f. f.list.items };
-}
-
-impl LoopFacts {
-    ghost use Rattle.std.specs.Prelude.{◌≡◌};
-
-    /// These facts.
-    pub fn new(list: Vec<LoopFact>) -> LoopFacts
-        ensures { result ≡ list.items }
-    {
-        LoopFacts { list }
-    }
-
-    /// The facts, as the `Vec` that holds them.
-    pub fn into_vec(self) -> Vec<LoopFact>
-        ensures { result.items ≡ self }
-    {
-        let LoopFacts { list } = self;
-        list
-    }
-
-    /// The facts.
-    pub fn as_slice(&self) -> &[LoopFact]
-        ensures { result.now ≡ self.now }
-    {
-        &self.list
-    }
-}
-
-/// Facts on where indirect jumps or calls go, in the order of their addresses.
-#[derive(Debug, Drop)]
-pub struct TargetFacts {
-    list: Vec<TargetFact>,
-}
-
-impl Model for TargetFacts {
-    ghost use Rattle.std.specs.Prelude.{List};
-    ghost use Rattle.wx_base.specs.declared.facts.TargetFact.{TargetFact};
-
-    ghost Value = { List TargetFact };
-
-    ghost view = { λ f. f.list.items };
-}
-
-impl TargetFacts {
-    ghost use Rattle.std.specs.Prelude.{◌≡◌};
-
-    /// These facts.
-    pub fn new(list: Vec<TargetFact>) -> TargetFacts
-        ensures { result ≡ list.items }
-    {
-        TargetFacts { list }
-    }
-
-    /// The facts, as the `Vec` that holds them.
-    pub fn into_vec(self) -> Vec<TargetFact>
-        ensures { result.items ≡ self }
-    {
-        let TargetFacts { list } = self;
-        list
-    }
-
-    /// The facts.
-    pub fn as_slice(&self) -> &[TargetFact]
-        ensures { result.now ≡ self.now }
-    {
-        &self.list
-    }
-}
+/// Facts on where indirect jumps or calls go, in the order of their addresses: contracts see the list.
+pub type TargetFacts = List<TargetFact>;
 
 /// What a user says of a program's flow. A run that does otherwise is not bounded.
 #[derive(Debug, Drop)]

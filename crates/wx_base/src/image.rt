@@ -1,8 +1,7 @@
 ghost use Rattle.std.specs.Prelude.{◌≡◌, ◌↔◌, IsTrue};
 
 use crate::symbol::Symbol;
-use crate::text::Text;
-use std::marker::Model;
+use wx_text::{List, Text};
 
 /// A part of memory that an image fills.
 #[derive(Debug, Drop)]
@@ -17,87 +16,11 @@ pub struct Segment {
     pub bytes: Text,
 }
 
-/// The segments of an image, in the order of the file's headers.
-#[derive(Debug, Drop)]
-pub struct Segments {
-    list: Vec<Segment>,
-}
+/// The segments of an image, in the order of the file's headers: contracts see the list.
+pub type Segments = List<Segment>;
 
-impl Model for Segments {
-    ghost use Rattle.std.specs.Prelude.{List};
-    ghost use Rattle.wx_base.specs.declared.image.Segment.{Segment};
-
-    ghost Value = { List Segment };
-
-    ghost view = { λ s. s.list.items };
-}
-
-impl Segments {
-    ghost use Rattle.std.specs.Prelude.{◌≡◌};
-
-    /// These segments.
-    pub fn new(list: Vec<Segment>) -> Segments
-        ensures { result ≡ list.items }
-    {
-        Segments { list }
-    }
-
-    /// The segments, as the `Vec` that holds them.
-    pub fn into_vec(self) -> Vec<Segment>
-        ensures { result.items ≡ self }
-    {
-        let Segments { list } = self;
-        list
-    }
-
-    /// The segments.
-    pub fn as_slice(&self) -> &[Segment]
-        ensures { result.now ≡ self.now }
-    {
-        &self.list
-    }
-}
-
-/// The symbols of an image, in the order of its symbol table.
-#[derive(Debug, Drop)]
-pub struct Symbols {
-    list: Vec<Symbol>,
-}
-
-impl Model for Symbols {
-    ghost use Rattle.std.specs.Prelude.{List};
-    ghost use Rattle.wx_base.specs.declared.symbol.Symbol.{Symbol};
-
-    ghost Value = { List Symbol };
-
-    ghost view = { λ s. s.list.items };
-}
-
-impl Symbols {
-    ghost use Rattle.std.specs.Prelude.{◌≡◌};
-
-    /// These symbols.
-    pub fn new(list: Vec<Symbol>) -> Symbols
-        ensures { result ≡ list.items }
-    {
-        Symbols { list }
-    }
-
-    /// The symbols, as the `Vec` that holds them.
-    pub fn into_vec(self) -> Vec<Symbol>
-        ensures { result.items ≡ self }
-    {
-        let Symbols { list } = self;
-        list
-    }
-
-    /// The symbols.
-    pub fn as_slice(&self) -> &[Symbol]
-        ensures { result.now ≡ self.now }
-    {
-        &self.list
-    }
-}
+/// The symbols of an image, in the order of its symbol table: contracts see the list.
+pub type Symbols = List<Symbol>;
 
 /// What lies in memory before the first instruction, where that is, and the symbols.
 ///

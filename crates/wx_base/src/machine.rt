@@ -1,8 +1,7 @@
 ghost use Rattle.std.specs.Prelude.{◌≡◌};
 
-use crate::text::Text;
 use std::alloc::Global;
-use std::marker::Model;
+use wx_text::{List, Text};
 
 /// The three kinds of unit that execute instructions.
 #[derive(Clone, Copy, Debug, PartialEq, Eq)]
@@ -51,35 +50,7 @@ pub struct Region {
 }
 
 /// Regions in the order of the description: contracts see the list.
-#[derive(Debug, Drop)]
-pub struct Regions {
-    items: Vec<Region>,
-}
-
-impl Model for Regions {
-    ghost use Rattle.std.specs.Prelude.{List};
-    ghost use Rattle.wx_base.specs.declared.machine.Region.{Region};
-
-    ghost Value = { List Region };
-
-    ghost view = { λ regions. regions.items.items };
-}
-
-impl Regions {
-    /// The regions of a list.
-    pub fn new(items: Vec<Region>) -> Regions
-        ensures { result ≡ items.items }
-    {
-        Regions { items }
-    }
-
-    /// The regions in order.
-    pub fn as_slice(&self) -> &[Region]
-        ensures { result.now ≡ self.now }
-    {
-        self.items.as_slice()
-    }
-}
+pub type Regions = List<Region>;
 
 /// A written machine: its pipeline, its memory's regions and its instruction cache.
 #[derive(Debug, Drop)]

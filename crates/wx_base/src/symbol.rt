@@ -1,7 +1,7 @@
 ghost use Rattle.std.specs.Prelude.{◌≡◌, ◌↔◌, Any, IsSome};
 ghost use Rattle.wx_base.specs.Symbols.{first_value, has_global_name, has_name, symbol_value};
 
-use crate::text::Text;
+use wx_text::Text;
 
 /// A symbol of an executable: a name for a value, mostly an address.
 #[derive(Debug, Drop)]

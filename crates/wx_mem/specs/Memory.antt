@@ -1,10 +1,11 @@
 -- A memory of bytes at 32-bit addresses, of which some have been written. This project's own.
-use Rattle.std.specs.Prelude.{ℕ, Bool, List, [], ◌∷◌, refl}
+use Rattle.std.specs.Prelude.{◌≡◌, ◌⊎◌, ℕ, ◌<◌, ◌≤◌, true, false, Bool, List, [], ◌∷◌, refl}
 use Rattle.std.specs.Option.{unwrap_or}
 use Rattle.std.specs.Ordering.{nat_cmp}
 use Rattle.std.specs.FinMap as map
 use Rattle.std.specs.Coded.{Coded, code_by, coded×, coded_ℕ}
 use Rattle.wx_base.specs.Bits.{add_words}
+use Rattle.wx_base.specs.State.{is_among}
 
 -- bytes by their addresses
 abbrev pub Written : Type 0
@@ -32,3 +33,21 @@ byte_at memory address = unwrap_or (map.get memory.written address) memory.fill
 abbrev pub with_bytes : Written → ℕ → List ℕ → Written
 with_bytes written address [] = written
 with_bytes written address (b ∷ bytes) = with_bytes (map.insert written address b) (add_words address 1) bytes
+
+-- each byte is below 256
+pub record HoldsBytes (memory : Bytes) : Type 0 where
+  pub each : (address : ℕ) → byte_at memory address < 256
+
+-- the map has each of so many addresses from the first on, modulo 2^32
+pub record HasAll (written : Written) (first count : ℕ) : Type 0 where
+  pub each : (address : ℕ) → is_among first count address ≡ true → map.contains_key written address ≡ true
+
+-- it lacks one of them
+pub record LacksSome (written : Written) (first count : ℕ) : Type 0 where
+  pub address : ℕ
+  pub among : is_among first count address ≡ true
+  pub absent : map.contains_key written address ≡ false
+
+-- it has each of them, or places to spare for all of them
+abbrev pub HasRoom : ℕ → Written → ℕ → ℕ → Type 0
+HasRoom spare written first count = HasAll written first count ⊎ (count ≤ spare)

@@ -1,7 +1,7 @@
 -- An event given at the root, below it, and in tables that grow.
 use Rattle.std.proofs.Common.{◌≡◌, ℕ, ◌<◌, ◌≤◌, Bool, true, false, List, length, slice_get, Some, Option, Result, Ok, Err, IfOk, refl, sym, ◌∙◌, arith, if◌then◌else◌, eqb, cond, nat_eq}
 use Rattle.std.proofs.lemmas.Bool.Decides.{nat_tests}
-use Rattle.wx_base.specs.declared.memory.NoMemory.{NoMemory}
+use Rattle.wx_text.specs.declared.memory.NoMemory.{NoMemory}
 use Rattle.std.proofs.lemmas.Option.{slice_get_within}
 use Rattle.xdd_table.specs.declared.node.Dd.{Dd}
 use Rattle.xdd_table.specs.declared.node.Node.{Node}
@@ -12,7 +12,7 @@ use Rattle.xdd_ops.specs.Given.{IsFixed, AreFixed}
 
 -- what is below a place of the old table is so in the new one
 module _ (old new : List Node) (table : IsTable old) (k : Keeps old new) where
-  below_kept : {p q : ℕ} → p < length old → IsBelow old p q → IsBelow new p q
+  pub below_kept : {p q : ℕ} → p < length old → IsBelow old p q → IsBelow new p q
   below_kept h itself = itself
   below_kept h (by_hit {p} {q} {e} {hit} {miss} is b) =
       let w : IsBranchAt old p e hit.place miss.place = table.each p (Branch e hit miss) is in
@@ -20,6 +20,18 @@ module _ (old new : List Node) (table : IsTable old) (k : Keeps old new) where
   below_kept h (by_miss {p} {q} {e} {hit} {miss} is b) =
       let w : IsBranchAt old p e hit.place miss.place = table.each p (Branch e hit miss) is in
       by_miss (k.nodes p h ∙ is) (below_kept (omega (arith, w.miss_before)) b)
+
+  -- and the other way round
+  pub below_back : {p q : ℕ} → p < length old → IsBelow new p q → IsBelow old p q
+  below_back h itself = itself
+  below_back h (by_hit {p} {q} {e} {hit} {miss} is b) =
+      let is' : slice_get old p ≡ Some (Branch e hit miss) = sym (k.nodes p h) ∙ is in
+      let w : IsBranchAt old p e hit.place miss.place = table.each p (Branch e hit miss) is' in
+      by_hit is' (below_back (omega (arith, w.hit_before)) b)
+  below_back h (by_miss {p} {q} {e} {hit} {miss} is b) =
+      let is' : slice_get old p ≡ Some (Branch e hit miss) = sym (k.nodes p h) ∙ is in
+      let w : IsBranchAt old p e hit.place miss.place = table.each p (Branch e hit miss) is' in
+      by_miss is' (below_back (omega (arith, w.miss_before)) b)
 
   pub events_back : (p bound : ℕ) → p < length old → EventsLess new p bound → EventsLess old p bound
   events_back p bound h less q e hit miss b at =

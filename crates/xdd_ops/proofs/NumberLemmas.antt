@@ -8,7 +8,7 @@ use Rattle.std.specs.Char.{is_ascii_digit, digit_value}
 use Rattle.std.specs.Fmt.{decimal}
 use Rattle.std.specs.List.{prefix_len, starts_with}
 use Rattle.std.specs.Str.Parse.{digits_value, AllDigits}
-use Rattle.wx_base.specs.Cursor.{Reading, rest, stepped, leading_digits, number_at}
+use Rattle.wx_text.specs.Cursor.{Reading, rest, stepped, leading_digits, number_at}
 use Rattle.xdd_ops.proofs.ReadLemmas.{drop_twice}
 
 digit_true : (x : ℕ) → digit_value x < 10 → is_ascii_digit x ≡ true

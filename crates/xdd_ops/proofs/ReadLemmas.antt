@@ -13,8 +13,8 @@ use Rattle.std.specs.Fmt.{decimal}
 use Rattle.std.specs.List.{starts_with, prefix_len}
 use Rattle.std.specs.Result.{OkIff, result_ok}
 use Rattle.std.specs.Str.Parse.{digits_value, AllDigits}
-use Rattle.wx_base.proofs.DigitLemmas as digits
-use Rattle.wx_base.specs.Cursor.{Reading, rest, stepped, leading_digits, number_at}
+use Rattle.wx_text.proofs.DigitLemmas as digits
+use Rattle.wx_text.specs.Cursor.{Reading, rest, stepped, leading_digits, number_at}
 use Rattle.xdd_table.specs.declared.node.Node.{Node}
 use Rattle.xdd_table.specs.declared.node.Node.TheVariants.{Leaf, Branch}
 use Rattle.xdd_table.specs.Diagram.{BeginsAfter}

@@ -4,7 +4,8 @@ use Rattle.std.specs.Prelude.{◌≡◌, ℕ, ◌+◌, ◌<◌, ◌≤◌, true,
 use Rattle.xdd_table.specs.declared.node.Dd.{Dd}
 use Rattle.xdd_table.specs.declared.node.Node.{Node}
 use Rattle.xdd_table.specs.declared.node.Node.TheVariants.{Leaf, Branch}
-use Rattle.xdd_table.specs.Diagram.{Combination, with_event, time, BeginsAfter, EventsLess}
+use Rattle.xdd_table.specs.Diagram.{Combination, with_event, time, BeginsAfter, EventsLess, IsBelow}
+use Rattle.xdd_ops.specs.declared.cofactors.Split.{Split}
 use Rattle.xdd_ops.specs.declared.cofactors.Expansion.{Expansion}
 use Rattle.xdd_ops.specs.declared.cofactors.Expansion.TheVariants.{Leaves, Branches}
 
@@ -33,6 +34,8 @@ pub record IsCofactors (nodes : List Node) (p event hit miss : ℕ) : Type 0 whe
   pub miss_before : miss ≤ p
   pub hit_less : HasRoot nodes event p → hit < p
   pub miss_less : HasRoot nodes event p → miss < p
+  pub hit_below : IsBelow nodes p hit
+  pub miss_below : IsBelow nodes p miss
   pub hit_time : (f : Combination) → time nodes f hit ≡ time nodes (with_event f event false) p
   pub miss_time : (f : Combination) → time nodes f miss ≡ time nodes (with_event f event true) p
   pub times : (f : Combination) → time nodes f p ≡ (if f event then time nodes f miss else time nodes f hit)
@@ -53,7 +56,12 @@ pub record AreLeaves (nodes : List Node) (a b t u : ℕ) : Type 0 where
   pub first : (f : Combination) → time nodes f a ≡ t
   pub second : (f : Combination) → time nodes f b ≡ u
 
+-- the pair and its two halves
+pub record IsSplitOf (nodes : List Node) (pair : Dd × Dd) (s : Split) : Type 0 where
+  pub same : s.pair ≡ pair
+  pub parts : IsSplit nodes pair.0.place pair.1.place s.event s.hits s.misses
+
 -- two leaves, or the two diagrams taken apart
-abbrev pub IsExpansion : List Node → ℕ → ℕ → Expansion → Type 0
-IsExpansion nodes a b (Leaves t u) = AreLeaves nodes a b t u
-IsExpansion nodes a b (Branches event hits misses) = IsSplit nodes a b event hits misses
+abbrev pub IsExpansion : List Node → Dd × Dd → Expansion → Type 0
+IsExpansion nodes pair (Leaves t u) = AreLeaves nodes pair.0.place pair.1.place t u
+IsExpansion nodes pair (Branches s) = IsSplitOf nodes pair s

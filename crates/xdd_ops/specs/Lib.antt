@@ -1,3 +1,4 @@
+pub mod Answers
 pub mod Cofactors
 pub mod Given
 pub mod Laws

@@ -6,7 +6,7 @@ use Rattle.xdd_table.specs.declared.node.Node.TheVariants.{Branch}
 use Rattle.xdd_table.specs.Order.{Finishes}
 use Rattle.xdd_ops.specs.declared.diagram_error.DiagramError.{DiagramError}
 use Rattle.xdd_ops.specs.declared.diagram_error.DiagramError.TheVariants.{Syntax, NotReduced, Order, NoMemory}
-use Rattle.wx_base.specs.Cursor.{Reading, rest}
+use Rattle.wx_text.specs.Cursor.{Reading, rest}
 use Rattle.xdd_ops.specs.Read.{line_text, count_line, lines_text, IsLineAt, AreLines, HasLines}
 
 -- the line `i` has one branch twice, or repeats an earlier line

@@ -1,19 +1,29 @@
 ghost use Rattle.std.specs.Prelude.{◌<◌, ◌⊎◌, length};
-ghost use Rattle.xdd_ops.specs.Cofactors.{BeginsFrom, HasRoot, IsCofactors, IsExpansion};
+ghost use Rattle.xdd_table.specs.Diagram.{IsTable};
+ghost use Rattle.xdd_ops.specs.Cofactors.{BeginsFrom, HasRoot, IsCofactors, IsExpansion, IsSplitOf};
 
 use xdd_table::{Dd, Node, Table};
+
+/// Two diagrams taken apart at the first event of either.
+#[derive(Drop)]
+pub struct Split {
+    /// The two diagrams.
+    pub pair: (Dd, Dd),
+    /// The event.
+    pub event: u32,
+    /// The two where it hits.
+    pub hits: (Dd, Dd),
+    /// The two where it misses.
+    pub misses: (Dd, Dd),
+}
 
 /// How two diagrams are taken apart.
 #[derive(Drop)]
 pub enum Expansion {
     /// Both are leaves, with these times.
     Leaves(u64, u64),
-    /// The first event of either, and the two diagrams where it hits and where it misses.
-    Branches {
-        event: u32,
-        hits: (Dd, Dd),
-        misses: (Dd, Dd),
-    },
+    /// One of them has an event.
+    Branches(Split),
 }
 
 /// The diagram where the event hits and where it misses, if it reads no event before that one.
@@ -33,32 +43,38 @@ pub fn cofactors(table: &Table, d: Dd, event: u32) -> (Dd, Dd)
 }
 
 /// Takes two diagrams apart at the first event of either.
-pub fn expand(table: &Table, a: Dd, b: Dd) -> Expansion
-    requires first { a.place < length table.now }
-    requires second { b.place < length table.now }
-    ensures { IsExpansion table.now a.place b.place result }
+pub fn expand(table: &Table, pair: (Dd, Dd)) -> Expansion
+    requires first { pair.0.place < length table.now }
+    requires second { pair.1.place < length table.now }
+    ensures parts { IsExpansion table.now pair result }
+    ensures table { IsTable table.now }
 {
-    match (table.node(a), table.node(b)) {
+    match (table.node(pair.0), table.node(pair.1)) {
         (Node::Leaf { time: t }, Node::Leaf { time: u }) => Expansion::Leaves(t, u),
-        (Node::Leaf { .. }, Node::Branch { event, .. }) => split(table, a, b, event),
-        (Node::Branch { event, .. }, Node::Leaf { .. }) => split(table, a, b, event),
+        (Node::Leaf { .. }, Node::Branch { event, .. }) => Expansion::Branches(take_apart(
+            table, pair, event,
+        )),
+        (Node::Branch { event, .. }, Node::Leaf { .. }) => Expansion::Branches(take_apart(
+            table, pair, event,
+        )),
         (Node::Branch { event: e, .. }, Node::Branch { event: g, .. }) => {
-            split(table, a, b, e.min(g))
+            Expansion::Branches(take_apart(table, pair, e.min(g)))
         }
     }
 }
 
-fn split(table: &Table, a: Dd, b: Dd, event: u32) -> Expansion
-    requires first { a.place < length table.now }
-    requires second { b.place < length table.now }
-    requires first_from { BeginsFrom table.now event a.place }
-    requires second_from { BeginsFrom table.now event b.place }
-    requires root { HasRoot table.now event a.place ⊎ HasRoot table.now event b.place }
-    ensures { IsExpansion table.now a.place b.place result }
+fn take_apart(table: &Table, pair: (Dd, Dd), event: u32) -> Split
+    requires first { pair.0.place < length table.now }
+    requires second { pair.1.place < length table.now }
+    requires first_from { BeginsFrom table.now event pair.0.place }
+    requires second_from { BeginsFrom table.now event pair.1.place }
+    requires root { HasRoot table.now event pair.0.place ⊎ HasRoot table.now event pair.1.place }
+    ensures { IsSplitOf table.now pair result }
 {
-    let (a_hit, a_miss) = cofactors(table, a, event);
-    let (b_hit, b_miss) = cofactors(table, b, event);
-    Expansion::Branches {
+    let (a_hit, a_miss) = cofactors(table, pair.0, event);
+    let (b_hit, b_miss) = cofactors(table, pair.1, event);
+    Split {
+        pair,
         event,
         hits: (a_hit, b_hit),
         misses: (a_miss, b_miss),

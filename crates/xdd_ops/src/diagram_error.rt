@@ -3,16 +3,17 @@ ghost use Rattle.xdd_ops.specs.declared.diagram_error.DiagramError.TheVariants a
 
 use std::alloc::{AllocError, AllocFailed};
 use thiserror::Error;
-use wx_base::NoMemory;
+use wx_text::NoMemory;
 
-/// Why bytes are no text of a diagram. The causes are looked for in the order of the variants, each over the whole text.
+/// Why bytes are no text of a diagram. The causes are looked for in the order of the variants, each over the whole
+/// text.
 #[derive(Debug, PartialEq, Eq, Drop, Error)]
 pub enum DiagramError {
     /// The bytes are not `dd N` and N lines.
     #[error("no diagram from byte {at} on")]
     Syntax {
-        /// How many bytes stand before the fault: before the first line that is none, or before what stands behind the last line.
-        /// A text that ends too early has its fault at its end.
+        /// How many bytes stand before the fault: before the first line that is none, or before what stands behind the
+        /// last line. A text that ends too early has its fault at its end.
         at: u64,
     },
     /// A line repeats an earlier one, or both its branches are one.

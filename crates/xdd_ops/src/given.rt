@@ -5,20 +5,21 @@ ghost use Rattle.xdd_ops.specs.Given.{IsFixed, AreFixed};
 
 use crate::difference::greatest_difference;
 use indexmap::IndexMap;
-use std::alloc::Global;
-use wx_base::NoMemory;
+use wx_text::NoMemory;
 use xdd_table::{Dd, Node, Table};
 
 /// The diagram with the event given: `true` is a miss. Each node below `d` is looked at once.
-pub fn fix(alloc: Global, table: &mut Table, d: Dd, event: u32, miss: bool) -> Result<Dd, NoMemory>
+pub fn fix(table: &mut Table, d: Dd, event: u32, miss: bool) -> Result<Dd, NoMemory>
     requires { d.place < length table.old }
-    ensures times { IfOk result (λ r. (f : Combination) → time table.new f r.place ≡ time table.old (with_event f event miss) d.place) }
+    ensures times { IfOk result (λ r. (f : Combination)
+        → time table.new f r.place ≡ time table.old (with_event f event miss) d.place) }
     ensures within { IfOk result (λ r. r.place < length table.new) }
     ensures after { IfOk result (λ r. (e : ℕ) → BeginsAfter table.old e d.place → BeginsAfter table.new e r.place) }
-    ensures events { IfOk result (λ r. (bound : ℕ) → EventsLess table.old d.place bound → EventsLess table.new r.place bound) }
+    ensures events { IfOk result (λ r. (bound : ℕ) → EventsLess table.old d.place bound
+        → EventsLess table.new r.place bound) }
     ensures kept { Keeps table.old table.new }
 {
-    let mut fixed = IndexMap::new(alloc);
+    let mut fixed = IndexMap::new(table.allocator());
     fix_below(table, d, event, miss, &mut fixed)
 }
 
@@ -65,14 +66,16 @@ fn fix_below(
 /// How much the time rises at most, in cycles, when the event misses in place of hitting: 0 where it never rises.
 ///
 /// Each pair of places of the two diagrams with the event given is looked at once.
-pub fn rise(alloc: Global, table: &mut Table, d: Dd, event: u32) -> Result<u64, NoMemory>
+pub fn rise(table: &mut Table, d: Dd, event: u32) -> Result<u64, NoMemory>
     requires { d.place < length table.old }
-    ensures bound { IfOk result (λ n. (f : Combination) → time table.old (with_event f event true) d.place - time table.old (with_event f event false) d.place ≤ n) }
-    ensures attained { IfOk result (λ n. (f : Combination) × (n ≡ time table.old (with_event f event true) d.place - time table.old (with_event f event false) d.place)) }
+    ensures bound { IfOk result (λ n. (f : Combination)
+        → time table.old (with_event f event true) d.place - time table.old (with_event f event false) d.place ≤ n) }
+    ensures attained { IfOk result (λ n. (f : Combination)
+        × (n ≡ time table.old (with_event f event true) d.place - time table.old (with_event f event false) d.place)) }
     ensures kept { Keeps table.old table.new }
 {
-    let missed = fix(alloc, table, d, event, true)?;
-    let hit = fix(alloc, table, d, event, false)?;
-    let mut known = IndexMap::new(alloc);
+    let missed = fix(table, d, event, true)?;
+    let hit = fix(table, d, event, false)?;
+    let mut known = IndexMap::new(table.allocator());
     greatest_difference(table, missed, hit, &mut known)
 }

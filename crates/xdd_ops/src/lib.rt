@@ -1,4 +1,5 @@
-//! Operations on the diagrams of a shared table: pointwise ones, an event given, the greatest time, and the text of a diagram.
+//! Operations on the diagrams of a shared table: pointwise ones, an event given, the greatest time, and the text of a
+//! diagram.
 #![tactic(auto)]
 
 mod cofactors;
@@ -8,12 +9,14 @@ mod given;
 mod laws;
 mod leaves;
 mod lines;
+mod memo;
+mod operation;
 mod pairs;
 mod pointwise;
 mod print;
 mod read;
-#[cfg(test)]
-mod tests;
+mod replacement;
+mod steps;
 
 pub use diagram_error::DiagramError;
 pub use given::{fix, rise};
@@ -23,3 +26,5 @@ pub use pairs::{Pairs, zip};
 pub use pointwise::{max, minus, plus};
 pub use print::print_diagram;
 pub use read::read_diagram;
+pub use replacement::replace;
+pub use steps::Steps;

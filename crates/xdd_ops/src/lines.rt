@@ -1,13 +1,14 @@
-ghost use Rattle.std.specs.Prelude.{◌≡◌, ℕ, ◌<◌, ◌^◌, List, [], ◌++◌, codes, length, IfOk, IfErr, IfSome, IfNone, IsSome};
+ghost use Rattle.std.specs.Prelude.{◌≡◌, ℕ, ◌<◌, ◌^◌, List, [], ◌++◌, codes, length, IfOk, IfErr, IfSome, IfNone};
+ghost use Rattle.std.specs.Prelude.{IsSome};
 ghost use Rattle.std.specs.Fmt.{decimal};
-ghost use Rattle.wx_base.specs.Cursor.{rest, leading_digits};
+ghost use Rattle.wx_text.specs.Cursor.{rest, leading_digits};
 ghost use Rattle.xdd_table.specs.Diagram.{BeginsAfter};
 ghost use Rattle.xdd_ops.specs.Read.{line_text, lines_text, count_line, IsLineAt, AreLines, HasLines};
 ghost use Rattle.xdd_ops.specs.Refusal.{BeginsWithLine, IsLineRefusal, IsCountedRefusal};
 
 use crate::diagram_error::DiagramError;
 use std::alloc::Global;
-use wx_base::Cursor;
+use wx_text::Cursor;
 use xdd_table::{Dd, Node};
 
 /// The lines of a text, whose places are the numbers of lines.
@@ -56,7 +57,8 @@ fn read_counted(
 fn read_count(cursor: &mut Cursor<'_>) -> Option<u64>
     ensures some { IfSome result (λ n. 0 < n) }
     ensures text { IfSome result (λ n. rest cursor.old ≡ count_line n ++ rest cursor.new) }
-    ensures again { (n : ℕ) (tail : List ℕ) → 0 < n → n < 2 ^ 64 → rest cursor.old ≡ count_line n ++ tail → (result ≡ Some n) × (rest cursor.new ≡ tail) }
+    ensures again { (n : ℕ) (tail : List ℕ) → 0 < n → n < 2 ^ 64 → rest cursor.old ≡ count_line n ++ tail
+        → (result ≡ Some n) × (rest cursor.new ≡ tail) }
     ensures bytes { cursor.new.bytes ≡ cursor.old.bytes }
 {
     if !cursor.expect(b"dd ") {
@@ -89,8 +91,10 @@ fn read_line(cursor: &mut Cursor<'_>, lines: &[Node]) -> Option<Node>
 
 /// What stands behind `leaf `.
 fn read_leaf(cursor: &mut Cursor<'_>) -> Option<Node>
-    ensures text { IfSome result (λ x. (t : ℕ) × (t < 2 ^ 64) × (x ≡ Node.Leaf t) × (rest cursor.old ≡ decimal t ++ codes "\n" ++ rest cursor.new)) }
-    ensures again { (t : ℕ) (tail : List ℕ) → t < 2 ^ 64 → rest cursor.old ≡ decimal t ++ codes "\n" ++ tail → (result ≡ Some (Node.Leaf t)) × (rest cursor.new ≡ tail) }
+    ensures text { IfSome result (λ x. (t : ℕ) × (t < 2 ^ 64) × (x ≡ Node.Leaf t)
+        × (rest cursor.old ≡ decimal t ++ codes "\n" ++ rest cursor.new)) }
+    ensures again { (t : ℕ) (tail : List ℕ) → t < 2 ^ 64 → rest cursor.old ≡ decimal t ++ codes "\n" ++ tail
+        → (result ≡ Some (Node.Leaf t)) × (rest cursor.new ≡ tail) }
     ensures bytes { cursor.new.bytes ≡ cursor.old.bytes }
 {
     let time = read_number(cursor)?;
@@ -102,8 +106,11 @@ fn read_leaf(cursor: &mut Cursor<'_>) -> Option<Node>
 
 /// The event and the two numbers of lines behind `branch `.
 fn read_branch(cursor: &mut Cursor<'_>) -> Option<(u32, u64, u64)>
-    ensures text { IfSome result (λ x. rest cursor.old ≡ decimal x.0 ++ codes " " ++ decimal x.1 ++ codes " " ++ decimal x.2 ++ codes "\n" ++ rest cursor.new) }
-    ensures again { (e h m : ℕ) (tail : List ℕ) → e < 2 ^ 32 → h < 2 ^ 64 → m < 2 ^ 64 → rest cursor.old ≡ decimal e ++ codes " " ++ decimal h ++ codes " " ++ decimal m ++ codes "\n" ++ tail → (result ≡ Some (e, h, m)) × (rest cursor.new ≡ tail) }
+    ensures text { IfSome result (λ x. rest cursor.old ≡ decimal x.0 ++ codes " " ++ decimal x.1 ++ codes " " ++ decimal
+        x.2 ++ codes "\n" ++ rest cursor.new) }
+    ensures again { (e h m : ℕ) (tail : List ℕ) → e < 2 ^ 32 → h < 2 ^ 64 → m < 2 ^ 64
+        → rest cursor.old ≡ decimal e ++ codes " " ++ decimal h ++ codes " " ++ decimal m ++ codes "\n" ++ tail
+        → (result ≡ Some (e, h, m)) × (rest cursor.new ≡ tail) }
     ensures bytes { cursor.new.bytes ≡ cursor.old.bytes }
 {
     let event = u32::try_from(read_number(cursor)?).ok()?;
@@ -138,7 +145,8 @@ fn earlier(lines: &[Node], event: u32, number: u64) -> Option<Dd>
 /// A number in its shortest spelling.
 fn read_number(cursor: &mut Cursor<'_>) -> Option<u64>
     ensures text { IfSome result (λ n. rest cursor.old ≡ decimal n ++ rest cursor.new) }
-    ensures again { (n : ℕ) (tail : List ℕ) → n < 2 ^ 64 → leading_digits tail ≡ [] → rest cursor.old ≡ decimal n ++ tail → (result ≡ Some n) × (rest cursor.new ≡ tail) }
+    ensures again { (n : ℕ) (tail : List ℕ) → n < 2 ^ 64 → leading_digits tail ≡ []
+        → rest cursor.old ≡ decimal n ++ tail → (result ≡ Some n) × (rest cursor.new ≡ tail) }
     ensures bytes { cursor.new.bytes ≡ cursor.old.bytes }
 {
     if cursor.expect(b"0") {

@@ -7,16 +7,16 @@ ghost use Rattle.xdd_ops.specs.Refusal.{IsRefusal, IsPlaceRefusal, AreReduced, I
 use crate::diagram_error::DiagramError;
 use crate::lines::read_lines;
 use indexmap::IndexSet;
-use std::alloc::Global;
-use wx_base::NoMemory;
+use wx_text::NoMemory;
 use xdd_table::{Dd, Node, Table};
 
-/// The diagram whose text the bytes are, as `print_diagram` writes it. What was printed of a place of the table is read as it.
+/// The diagram whose text the bytes are, as `print_diagram` writes it. What was printed of a place of the table is read
+/// as it.
 ///
-/// `Syntax` where they are not `dd N` and N lines, then `NotReduced` where a line repeats an earlier one or has one branch twice,
-/// then `Order` where a line is not the one that the walk finishes there, each at the first such place. The nodes of lines that
-/// were read stay in the table.
-pub fn read_diagram(alloc: Global, table: &mut Table, bytes: &[u8]) -> Result<Dd, DiagramError>
+/// `Syntax` where they are not `dd N` and N lines, then `NotReduced` where a line repeats an earlier one or has one
+/// branch twice, then `Order` where a line is not the one that the walk finishes there, each at the first such place.
+/// The nodes of lines that were read stay in the table.
+pub fn read_diagram(table: &mut Table, bytes: &[u8]) -> Result<Dd, DiagramError>
     ensures read { IfOk result (λ d. IsTextOf table.new d.place bytes.now) }
     ensures within { IfOk result (λ d. d.place < length table.new) }
     ensures grammar { IfOk result (λ d. IsDiagramText bytes.now) }
@@ -26,8 +26,8 @@ pub fn read_diagram(alloc: Global, table: &mut Table, bytes: &[u8]) -> Result<Dd
     ensures due { (e : DiagramError) → IsRefusal bytes.now e → e ≢ DiagramError.NoMemory → IsRefusedFor result e }
     ensures kept { Keeps table.old table.new }
 {
-    let lines = read_lines(alloc, bytes)?;
-    let places = place_lines(alloc, table, lines.as_slice())?;
+    let lines = read_lines(table.allocator(), bytes)?;
+    let places = place_lines(table, lines.as_slice())?;
     let places = places.as_slice();
     let root = Dd {
         place: places[places.len() - 1],
@@ -42,11 +42,7 @@ pub fn read_diagram(alloc: Global, table: &mut Table, bytes: &[u8]) -> Result<Dd
 }
 
 /// The places of the lines in the table, in their order.
-fn place_lines(
-    alloc: Global,
-    table: &mut Table,
-    lines: &[Node],
-) -> Result<IndexSet<usize>, DiagramError>
+fn place_lines(table: &mut Table, lines: &[Node]) -> Result<IndexSet<usize>, DiagramError>
     requires { AreLines lines.now }
     ensures placed { IfOk result (λ places. ArePlaced table.new lines.now places.keys) }
     ensures count { IfOk result (λ places. length places.keys ≡ length lines.now) }
@@ -55,7 +51,7 @@ fn place_lines(
     ensures refused { IfErr result (λ e. IsPlaceRefusal lines.now e) }
     ensures kept { Keeps table.old table.new }
 {
-    let mut places = IndexSet::new(alloc);
+    let mut places = IndexSet::new(table.allocator());
     for (index, line) in lines.iter().enumerate() {
         let d = place_line(table, *line, places.as_slice())?;
         let (position, _) = places.insert_full(d.place)?;

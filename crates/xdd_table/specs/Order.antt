@@ -1,5 +1,5 @@
 -- The places below a diagram, each once, and the order in which a walk finishes them.
-use Rattle.std.specs.Prelude.{◌≡◌, ℕ, Bool, true, false, List, [], ◌∷◌, ◌++◌, slice_get, Some, nat_eq}
+use Rattle.std.specs.Prelude.{◌≡◌, ℕ, Bool, true, false, List, [], ◌∷◌, ◌++◌, length, slice_get, Some, nat_eq}
 use Rattle.std.specs.List.{list_any}
 use Rattle.xdd_table.specs.declared.node.Dd.{Dd}
 use Rattle.xdd_table.specs.declared.node.Node.{Node}
@@ -22,6 +22,12 @@ pub record ListsBelow (nodes : List Node) (p : ℕ) (places : List ℕ) : Type 0
   pub sound : (q : ℕ) → has places q ≡ true → IsBelow nodes p q
   pub whole : (q : ℕ) → IsBelow nodes p q → has places q ≡ true
   pub once : (i j q : ℕ) → slice_get places i ≡ Some q → slice_get places j ≡ Some q → i ≡ j
+
+-- the size of a diagram: how many places are below its root, its own among them
+pub record IsSize (nodes : List Node) (p size : ℕ) : Type 0 where
+  pub places : List ℕ
+  pub listed : ListsBelow nodes p places
+  pub count : length places ≡ size
 
 -- at the combination the time is that of a leaf in the list
 pub record LeadsTo (nodes : List Node) (f : Combination) (p : ℕ) (places : List ℕ) : Type 0 where

@@ -1,11 +1,10 @@
-//! The shared table of decision diagrams: each node is stored once, so two diagrams are equal exactly if their places are.
+//! The shared table of decision diagrams: each node is stored once, so two diagrams are equal exactly if their places
+//! are.
 #![tactic(auto)]
 
 mod node;
 mod order;
 mod table;
-#[cfg(test)]
-mod tests;
 
 pub use node::{Dd, Node};
 pub use order::Order;

@@ -1,15 +1,17 @@
-ghost use Rattle.std.specs.Prelude.{◌≡◌, ◌<◌, ℕ, List, [], length, slice_get, Some, true, nat_eq, OnOk, IfOk, IfSome, IfNone, EachIndex, slice_index, false};
+ghost use Rattle.std.specs.Prelude.{◌≡◌, ◌<◌, ℕ, List, [], length, slice_get, Some, true, nat_eq, OnOk, IfOk, IfSome};
+ghost use Rattle.std.specs.Prelude.{IfNone, EachIndex, slice_index, false};
 ghost use Rattle.std.specs.List.{position};
-ghost use Rattle.xdd_table.specs.Order.{has, Finishes, ListsBelow, LeadsTo};
+ghost use Rattle.xdd_table.specs.Order.{has, Finishes, ListsBelow, IsSize, LeadsTo};
 ghost use Rattle.xdd_table.specs.Diagram.{Combination, time};
 
 use crate::node::{Dd, Node};
 use crate::table::Table;
 use indexmap::IndexSet;
 use std::marker::Model;
-use wx_base::NoMemory;
+use wx_text::NoMemory;
 
-/// The places below a diagram and its own, each once: a walk goes to the hit branch first, and a place comes when it is finished.
+/// The places below a diagram and its own, each once: a walk goes to the hit branch first, and a place comes when it is
+/// finished.
 ///
 /// So both branches of a node come before it, and the diagram's root comes last.
 #[derive(Drop)]
@@ -49,7 +51,8 @@ impl Table {
         ensures below { IfOk result (λ o. ListsBelow self.now d.place o) }
         ensures within { IfOk result (λ o. EachIndex o (λ k. slice_index o k < length self.now)) }
         ensures leaves { IfOk result (λ o. (f : Combination) → LeadsTo self.now f d.place o) }
-        ensures led { IfOk result (λ o. (q t : ℕ) → has o q ≡ true → slice_get self.now q ≡ Some (Node.Leaf t) → (f : Combination) × (time self.now f d.place ≡ t)) }
+        ensures led { IfOk result (λ o. (q t : ℕ) → has o q ≡ true → slice_get self.now q ≡ Some (Node.Leaf t)
+            → (f : Combination) × (time self.now f d.place ≡ t)) }
     {
         let _nodes = &self.nodes;
         let mut places = IndexSet::new(self.allocator());
@@ -60,7 +63,7 @@ impl Table {
     /// The number of nodes below the diagram, its root among them.
     pub fn size(&self, d: Dd) -> Result<usize, NoMemory>
         requires { d.place < length self.now }
-        ensures { IfOk result (λ n. (places : List ℕ) × ListsBelow self.now d.place places × (length places ≡ n)) }
+        ensures { IfOk result (IsSize self.now d.place) }
     {
         let order = self.order(d)?;
         Ok(order.places().len())

@@ -1,12 +1,14 @@
-ghost use Rattle.std.specs.Prelude.{◌≡◌, ◌≢◌, ◌<◌, ◌↔◌, ℕ, Bool, List, [], length, slice_get, Some, IsTrue, IfOk, OnOk, OnErr, if◌then◌else◌};
+ghost use Rattle.std.specs.Prelude.{◌≡◌, ◌≢◌, ◌<◌, ◌↔◌, ℕ, Bool, List, [], length, slice_get, Some, IsTrue, IfOk, OnOk};
+ghost use Rattle.std.specs.Prelude.{OnErr, if◌then◌else◌};
 ghost use Rattle.xdd_table.specs.declared.node.Node.{Node as NodeOf};
-ghost use Rattle.xdd_table.specs.Diagram.{Combination, with_event, AgreesWith, time, BeginsAfter, IsNodeAt, IsTable, Keeps, Holds, time_of_node, EventsLess};
+ghost use Rattle.xdd_table.specs.Diagram.{Combination, with_event, AgreesWith, time, BeginsAfter, IsNodeAt, IsTable};
+ghost use Rattle.xdd_table.specs.Diagram.{Keeps, Holds, time_of_node, EventsLess};
 
 use crate::node::{Dd, Node};
 use indexmap::IndexSet;
 use std::alloc::Global;
 use std::marker::Model;
-use wx_base::NoMemory;
+use wx_text::NoMemory;
 
 /// A table of nodes, each stored once. A place is a position of the table, and no call changes the node at a place.
 #[derive(Drop)]
@@ -40,7 +42,8 @@ impl Table {
         self.nodes.len()
     }
 
-    pub(crate) fn allocator(&self) -> Global {
+    /// The allocator that the table was made with.
+    pub fn allocator(&self) -> Global {
         *self.nodes.allocator()
     }
 
@@ -67,11 +70,14 @@ impl Table {
         requires hit_after { BeginsAfter self.old event hit.place }
         requires miss_after { BeginsAfter self.old event miss.place }
         ensures alike { IfOk result (λ d. hit.place ≡ miss.place → (d ≡ hit) × (self.new ≡ self.old)) }
-        ensures place { IfOk result (λ d. hit.place ≢ miss.place → Holds self.old self.new (Node.Branch event hit miss) d.place) }
-        ensures times { IfOk result (λ d. (f : Combination) → time self.new f d.place ≡ (if f event then time self.old f miss.place else time self.old f hit.place)) }
+        ensures place { IfOk result (λ d. hit.place ≢ miss.place
+            → Holds self.old self.new (Node.Branch event hit miss) d.place) }
+        ensures times { IfOk result (λ d. (f : Combination)
+            → time self.new f d.place ≡ (if f event then time self.old f miss.place else time self.old f hit.place)) }
         ensures within { IfOk result (λ d. d.place < length self.new) }
         ensures after { IfOk result (λ d. (e : ℕ) → e < event → BeginsAfter self.new e d.place) }
-        ensures events { IfOk result (λ d. (bound : ℕ) → event < bound → EventsLess self.old hit.place bound → EventsLess self.old miss.place bound → EventsLess self.new d.place bound) }
+        ensures events { IfOk result (λ d. (bound : ℕ) → event < bound → EventsLess self.old hit.place bound
+            → EventsLess self.old miss.place bound → EventsLess self.new d.place bound) }
         ensures kept { Keeps self.old self.new }
         ensures unchanged { OnErr result (self.new ≡ self.old) }
         ensures table { IsTable self.new }
@@ -89,7 +95,8 @@ impl Table {
         ensures value { slice_get self.now d.place ≡ Some result }
         ensures shape { IsNodeAt self.now d.place result }
         ensures times { (f : Combination) → time self.now f d.place ≡ time_of_node self.now f result }
-        ensures unread { (f : Combination) (e : ℕ) (b : Bool) → BeginsAfter self.now e d.place → time self.now (with_event f e b) d.place ≡ time self.now f d.place }
+        ensures unread { (f : Combination) (e : ℕ) (b : Bool) → BeginsAfter self.now e d.place
+            → time self.now (with_event f e b) d.place ≡ time self.now f d.place }
         ensures table { IsTable self.now }
     {
         self.nodes.as_slice()[d.place]
@@ -111,13 +118,15 @@ impl Table {
         requires first { a.place < length self.now }
         requires second { b.place < length self.now }
         ensures value { IsTrue result ↔ (a.place ≡ b.place) }
-        ensures canonical { ((f : Combination) → time self.now f a.place ≡ time self.now f b.place) → a.place ≡ b.place }
+        ensures canonical { ((f : Combination) → time self.now f a.place ≡ time self.now f b.place)
+            → a.place ≡ b.place }
     {
         let _nodes = &self.nodes;
         a == b
     }
 
-    /// The diagram's time at a combination, in cycles. `true` is a miss, and `combo` is longer than every event below `d`.
+    /// The diagram's time at a combination, in cycles. `true` is a miss, and `combo` is longer than every event below
+    /// `d`.
     pub fn time(&self, d: Dd, combo: &[bool]) -> u64
         requires within { d.place < length self.now }
         requires events { EventsLess self.now d.place (length combo.now) }
@@ -140,7 +149,8 @@ fn store(nodes: &mut IndexSet<Node>, node: Node) -> Result<Dd, NoMemory>
     requires table { IsTable nodes.old.keys }
     requires shape { IsNodeAt nodes.old.keys (length nodes.old.keys) node }
     ensures place { IfOk result (λ d. Holds nodes.old.keys nodes.new.keys node d.place) }
-    ensures times { IfOk result (λ d. (f : Combination) → time nodes.new.keys f d.place ≡ time_of_node nodes.old.keys f node) }
+    ensures times { IfOk result (λ d. (f : Combination)
+        → time nodes.new.keys f d.place ≡ time_of_node nodes.old.keys f node) }
     ensures within { IfOk result (λ d. d.place < length nodes.new.keys) }
     ensures kept { Keeps nodes.old.keys nodes.new.keys }
     ensures unchanged { OnErr result (nodes.new.keys ≡ nodes.old.keys) }

@@ -6,7 +6,7 @@ use Rattle.std.specs.Prelude.{Bool}
 use Rattle.std.specs.Option.{option_map}
 use Rattle.arm_text.specs.Names.{register_name}
 use Rattle.arm_text.specs.Text.{sign}
-use Rattle.wx_base.specs.Decimal.{decimal}
+use Rattle.wx_text.specs.Decimal.{decimal}
 use Rattle.arm_text.proofs.Distinct.{register_letter}
 use Rattle.arm_text.proofs.addresses.read_half_offset.Goals as goal
 

@@ -5,7 +5,7 @@ use Rattle.arm_code.specs.declared.insn.Offset.TheVariants as offset_of
 use Rattle.std.specs.Prelude.{Bool}
 use Rattle.std.specs.Option.{option_map}
 use Rattle.arm_text.specs.Text.{sign, shift_text, shifted_text}
-use Rattle.wx_base.specs.Decimal.{decimal}
+use Rattle.wx_text.specs.Decimal.{decimal}
 use Rattle.arm_text.proofs.Distinct.{register_front}
 use Rattle.arm_text.proofs.AddressParts.{signed_register}
 use Rattle.arm_text.proofs.addresses.read_offset.Goals as goal

@@ -1,5 +1,5 @@
 -- A number begins with a digit and not with a sign.
-use Rattle.wx_base.specs.Decimal.{decimal}
+use Rattle.wx_text.specs.Decimal.{decimal}
 use Rattle.arm_text.proofs.AddressParts.{no_sign}
 use Rattle.arm_text.proofs.addresses.read_signed.Goals as goal
 

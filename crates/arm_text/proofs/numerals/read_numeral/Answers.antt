@@ -1,5 +1,5 @@
 -- The mark stands at the front.
-use Rattle.wx_base.specs.Decimal.{decimal}
+use Rattle.wx_text.specs.Decimal.{decimal}
 use Rattle.arm_text.proofs.numerals.read_numeral.Goals as goal
 
 pub returns-in_err-behind-clause-complete : goal.returns-in_err-behind-clause-complete

@@ -1,5 +1,5 @@
 -- The mark of a hexadecimal number stands at the front.
-use Rattle.wx_base.specs.Hexadecimal.{hex_word}
+use Rattle.wx_text.specs.Hexadecimal.{hex_word}
 use Rattle.arm_code.specs.Flows.{offset_target}
 use Rattle.arm_text.proofs.numerals.read_target.Goals as goal
 

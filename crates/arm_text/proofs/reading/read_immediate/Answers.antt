@@ -1,6 +1,6 @@
 -- Only bits with a rotation hold a space.
 use Rattle.std.proofs.Common.{◌*◌, ◌++◌, codes, inl, inr, sym, ◌∙◌, arith}
-use Rattle.wx_base.specs.Decimal.{decimal}
+use Rattle.wx_text.specs.Decimal.{decimal}
 use Rattle.arm_text.specs.Text.{numeral, rotated}
 use Rattle.arm_text.proofs.Rotations.{rotated_fits}
 use Rattle.arm_text.proofs.Shapes.{parted, numeral_without, immediate_cases}

@@ -1,6 +1,6 @@
 -- The rotation stands behind its name.
 use Rattle.std.proofs.Common.{◌*◌}
-use Rattle.wx_base.specs.Decimal.{decimal}
+use Rattle.wx_text.specs.Decimal.{decimal}
 use Rattle.arm_text.proofs.reading.read_rotation.Goals as goal
 
 pub returns-in_err-behind-clause-complete : goal.returns-in_err-behind-clause-complete

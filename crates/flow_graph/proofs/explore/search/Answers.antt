@@ -16,7 +16,7 @@ loop-address-preserved c =
     (more_by c.args.image.now c.args.facts.now c.args.start c.loop-address.reached.keys c.add_code-in-Some.new.reached.keys c.add_code-in-Some-2.new.reached.keys
     c.as_slice.result.now c.as_slice-in-Some.result.now c.loop-address.sites.items c.in_ok-site.site c.len.result c.in-Some.address.now
     c.loop-address.invariant c.in-Some.ensures.key at c.in_ok-site.ensures.address c.in_ok-site.ensures.site
-    c.as_slice.ensures c.in_ok-add_code-2.ensures c.as_slice-in-Some.ensures c.in_ok-add_code-3.ensures)
+    c.as_slice.ensures c.in_ok-add_code-2.ensures c.as_slice-in-Some.ensures.value c.in_ok-add_code-3.ensures)
 
 pub returns : goal.returns
 returns c =

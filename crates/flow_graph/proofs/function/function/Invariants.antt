@@ -1,4 +1,4 @@
 use Rattle.flow_graph.proofs.function.function.Given as goal
 
-abbrev pub ghost-blocks : goal.ghost-blocks
-ghost-blocks g a = g.of
+abbrev pub ghost-blocks_of : goal.ghost-blocks_of
+ghost-blocks_of g a = g.of

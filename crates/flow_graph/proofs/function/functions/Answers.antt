@@ -7,7 +7,7 @@ use Rattle.flow_graph.proofs.function.functions.Goals as goal
 
 pub function-requires : goal.function-requires
 function-requires c =
-    let facts = c.args.facts.now in
+    let facts = c.args.inputs.now.facts.now in
     let addresses = c.args.listing.now.addresses.items in
     let ways = c.args.listing.now.ways in
     let P : Outline → Type 0 = λ o. IsOutline ways o × (o.entry < length ways) in
@@ -20,5 +20,5 @@ pub loop-outline-preserved : goal.loop-outline-preserved
 loop-outline-preserved c =
     let pushed : c.push.new.self.items ≡ c.loop-outline.functions.items ++ c.in_ok-function.field-0 ∷ [] = c.in_ok-push.ensures.items in
     rw pushed
-    (functions_more c.args.image.now c.args.facts.now c.args.machine.now c.args.listing.now.addresses.items c.args.outlines.now c.loop-outline.functions.items c.loop-outline.outline-index
+    (functions_more c.args.inputs.now.image.now c.args.inputs.now.facts.now c.args.inputs.now.machine.now c.args.listing.now.addresses.items c.args.outlines.now c.loop-outline.functions.items c.loop-outline.outline-index
     c.outline-item.result c.in_ok-function.field-0 c.loop-outline-test.true c.outline-item.is c.loop-outline.invariant c.in_ok-function.ensures)

@@ -1,8 +1,14 @@
-use Rattle.std.proofs.Common.{List, ℕ, sym, subst, arith}
+use Rattle.std.proofs.Common.{List, ℕ, get_or, sym, subst, arith}
 use Rattle.flow_graph.specs.Listing.{ArePlaces}
 use Rattle.std.proofs.Common.{take, ◌+◌}
-use Rattle.flow_graph.proofs.ListingLemmas.{next_place}
+use Rattle.flow_graph.proofs.ListingLemmas.{next_place, there}
 use Rattle.flow_graph.proofs.listing.places.Goals as goal
+
+pub place-requires-clause-listed : goal.place-requires-clause-listed
+place-requires-clause-listed c =
+    let i = c.loop-address.address-index in
+    let a = get_or c.args.list.now i 0 in
+    there c.args.addresses.now a (c.requires.listed i 0 (omega arith))
 
 pub loop-address-preserved : goal.loop-address-preserved
 loop-address-preserved c = subst (λ (ps : List ℕ). ArePlaces c.args.addresses.now (take (c.loop-address.address-index + 1) c.args.list.now) ps) (sym c.in_ok-push.ensures.items)

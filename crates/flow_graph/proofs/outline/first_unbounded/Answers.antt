@@ -17,11 +17,11 @@ loop-found-preserved c =
       | then-is_none w ↦
           subst (λ (a : Option ℕ). IsLeast (λ v. Any (λ l. Kind l v) (take (i + 1) loops)) a) (sym w.least-is)
           (least_more Kind loops i found c.loop-found.least (Some found.head) w.lesser-least.result c.loop-found-test.true c.found-item.is c.loop-found.invariant
-          (head_unbounded facts addresses found c.bound.result c.bound.ensures w.if-is_none.ensures) w.lesser-least.ensures)
+          (head_unbounded facts addresses found c.loop_fact.result c.loop_fact.ensures.value w.if-is_none.ensures) w.lesser-least.ensures)
       | else-is_none w ↦
           subst (λ (a : Option ℕ). IsLeast (λ v. Any (λ l. Kind l v) (take (i + 1) loops)) a) (sym w.least-is)
           (least_passed Kind loops i found c.loop-found.least c.loop-found-test.true c.found-item.is
-          (head_bounded facts addresses found c.bound.result c.bound.ensures w.if-is_none.ensures) c.loop-found.invariant)
+          (head_bounded facts addresses found c.loop_fact.result c.loop_fact.ensures.value w.if-is_none.ensures) c.loop-found.invariant)
     ]
 
 pub returns : goal.returns

@@ -4,8 +4,11 @@ use Rattle.wx_base.specs.State.{pc}
 use Rattle.arm_step.specs.Cpu.{registers_of}
 use Rattle.flow_graph.specs.Program.{rules_of}
 use Rattle.run_machine.specs.declared.report.End.{End}
-use Rattle.run_machine.specs.Report.{start_of}
+use Rattle.start_file.specs.StartState.{start_of}
 use Rattle.run_machine.specs.Walk.{IsWalk, Follows}
+use Rattle.wx_base.specs.Monitor.{Watch}
+use Rattle.run_machine.specs.Judging.{totals_of}
+use Rattle.run_machine.proofs.Few.{are_few, few_moves}
 use Rattle.run_machine.proofs.Whole.{begins, longer, reported, over_not_limited}
 use Rattle.run_machine.proofs.course.follow.Goals as goal
 
@@ -49,3 +52,12 @@ loop-executed-preserved c =
       walk = subst W c.in_default.is c.in_ok-end.ensures.walk;
       steps = subst S c.in_default.is c.in_ok-end.ensures.steps ∙ ap (λ n. n + 1) c.loop-executed.invariant.steps;
     }
+
+pub advance-requires-clause-totals : goal.advance-requires-clause-totals
+advance-requires-clause-totals c =
+    let rules = rules_of c.args.facts.now c.args.program.now in
+    let entry = registers_of c.args.start.cpu.regs pc in
+    let start = start_of c.args.image.now c.args.start in
+    let run = run_of c.args.machine.now c.args.image.now rules entry start c.loop-executed.executed in
+    are_few run.watch (totals_of c.loop-executed.walk.monitor.totals) c.loop-executed.executed (few_moves c.args.machine.now c.args.image.now rules entry start c.loop-executed.executed)
+    (ap (λ (watch : Watch). watch.totals) c.loop-executed.invariant.shows.watch) (omega arith)

@@ -3,7 +3,7 @@ use Rattle.wx_base.specs.Run.{run_of}
 use Rattle.wx_base.specs.State.{pc}
 use Rattle.arm_step.specs.Cpu.{registers_of}
 use Rattle.flow_graph.specs.Program.{rules_of}
-use Rattle.run_machine.specs.Report.{start_of}
+use Rattle.start_file.specs.StartState.{start_of}
 use Rattle.run_machine.specs.Walk.{IsWalk, Shows}
 use Rattle.run_machine.proofs.course.follow.Given as goal
 

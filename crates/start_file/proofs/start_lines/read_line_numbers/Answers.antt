@@ -1,7 +1,7 @@
 use Rattle.std.proofs.Common.{◌≡◌, ℕ, ◌<◌, ◌+◌, ◌^◌, ◌++◌, ◌∷◌, [], Bor, List, map, get_or, subst, sym, ◌∙◌}
 use Rattle.std.proofs.lemmas.List.{get_or-map, length-map}
 use Rattle.std.proofs.lemmas.Option.{none-some, same_Some}
-use Rattle.wx_base.specs.Hexadecimal.{hex_word}
+use Rattle.wx_text.specs.Hexadecimal.{hex_word}
 use Rattle.start_file.proofs.StartSoFar.{ReadSoFar, read_more, none_has}
 use Rattle.start_file.proofs.start_lines.read_line_numbers.Goals as goal
 

@@ -1,5 +1,5 @@
 use Rattle.std.proofs.Common.{◌<◌, ◌^◌, map}
-use Rattle.wx_base.specs.Hexadecimal.{hex_word}
+use Rattle.wx_text.specs.Hexadecimal.{hex_word}
 use Rattle.start_file.proofs.StartSoFar.{ReadSoFar}
 use Rattle.start_file.proofs.start_lines.read_line_numbers.Given as goal
 

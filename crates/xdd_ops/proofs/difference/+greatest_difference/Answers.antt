@@ -6,11 +6,11 @@ pub returns-in-Some-clause-greatest : goal.returns-in-Some-clause-greatest
 returns-in-Some-clause-greatest t c = c.requires.memo.each c.args.a.place c.args.b.place c.in-Some.most.now (sym c.in-Some.ensures.value)
 
 pub returns-in-Leaves-clause-greatest : goal.returns-in-Leaves-clause-greatest
-returns-in-Leaves-clause-greatest t c = rw c.saturating_sub.ensures (leaves_difference c.args.table.now c.args.a.place c.args.b.place c.in-Leaves.t c.in-Leaves.u c.in-Leaves.ensures)
+returns-in-Leaves-clause-greatest t c = rw c.saturating_sub.ensures (leaves_difference c.args.table.now c.args.a.place c.args.b.place c.in-Leaves.t c.in-Leaves.u c.in-Leaves.ensures.parts)
 
 pub returns-in_ok-insert-in-Branches-clause-greatest : goal.returns-in_ok-insert-in-Branches-clause-greatest
 returns-in_ok-insert-in-Branches-clause-greatest t c = rw c.max-most.ensures
-    (split_difference c.args.table.now c.args.a.place c.args.b.place c.in-Branches.event c.in-Branches.hits c.in-Branches.misses c.in-Branches.ensures
+    (split_difference c.args.table.now c.args.a.place c.args.b.place c.in-Branches.split.event c.in-Branches.split.hits c.in-Branches.split.misses c.in-Branches.ensures.parts.parts
     c.in_ok-hit-in-Branches.hit c.in_ok-missed-in-Branches.missed c.in_ok-hit-in-Branches.ensures.greatest c.in_ok-missed-in-Branches.ensures.greatest)
 
 pub returns-in_ok-insert-in-Branches-clause-memo : goal.returns-in_ok-insert-in-Branches-clause-memo

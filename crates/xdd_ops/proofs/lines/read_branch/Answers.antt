@@ -2,7 +2,7 @@ use Rattle.std.proofs.Common.{◌≡◌, ◌<◌, ◌^◌, ◌∷◌, ◌++◌, 
 use Rattle.std.proofs.lemmas.Bool.{false≢true}
 use Rattle.xdd_ops.proofs.NumberLemmas.{regroup, expected_again, some_same, none_some}
 use Rattle.std.specs.Fmt.{decimal}
-use Rattle.wx_base.specs.Cursor.{rest}
+use Rattle.wx_text.specs.Cursor.{rest}
 use Rattle.xdd_ops.proofs.ReadLemmas.{passed, six, tried}
 use Rattle.xdd_ops.proofs.lines.read_branch.Goals as goal
 

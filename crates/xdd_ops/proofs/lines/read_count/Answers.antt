@@ -2,7 +2,7 @@ use Rattle.std.proofs.Common.{◌≡◌, ◌∷◌, codes, refl, sym, ◌∙◌,
 use Rattle.std.proofs.lemmas.Bool.{false≢true}
 use Rattle.xdd_ops.proofs.NumberLemmas.{number_behind, expected_again, some_same, none_some}
 use Rattle.std.specs.Fmt.{decimal}
-use Rattle.wx_base.specs.Cursor.{rest}
+use Rattle.wx_text.specs.Cursor.{rest}
 use Rattle.xdd_ops.proofs.ReadLemmas.{passed, three}
 use Rattle.xdd_ops.proofs.lines.read_count.Goals as goal
 use Rattle.xdd_ops.proofs.lines.read_count.Goals.{then-count-eq0-via-then-count-eq0, then-count-eq0-via-else-count-eq0+then-not-expect-2}

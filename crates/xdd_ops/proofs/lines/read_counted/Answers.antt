@@ -1,5 +1,5 @@
 use Rattle.std.proofs.Common.{◌≡◌, ◌++◌, ◌∷◌, [], ◌∙◌, arith, length}
-use Rattle.wx_base.specs.Cursor.{rest}
+use Rattle.wx_text.specs.Cursor.{rest}
 use Rattle.xdd_ops.specs.Read.{IsLineAt}
 use Rattle.xdd_ops.proofs.ReadLemmas.{lines_more, text_more, length_push}
 use Rattle.xdd_ops.proofs.lines.read_counted.Goals as goal

@@ -1,5 +1,5 @@
 use Rattle.std.proofs.Common.{◌≡◌, ◌++◌, length}
-use Rattle.wx_base.specs.Cursor.{rest}
+use Rattle.wx_text.specs.Cursor.{rest}
 use Rattle.xdd_ops.specs.Read.{lines_text, AreLines}
 use Rattle.xdd_ops.proofs.lines.read_counted.Given as goal
 

@@ -2,7 +2,7 @@ use Rattle.std.proofs.Common.{◌≡◌, ◌++◌, codes}
 use Rattle.std.proofs.lemmas.Bool.{false≢true}
 use Rattle.std.proofs.lemmas.Option.{none-some}
 use Rattle.std.specs.Fmt.{decimal}
-use Rattle.wx_base.specs.Cursor.{rest}
+use Rattle.wx_text.specs.Cursor.{rest}
 use Rattle.xdd_ops.proofs.ReadLemmas.{passed, passed_second, failed, leaf_text, join}
 use Rattle.xdd_ops.proofs.LineLemmas.{if_none, no_leaf, branch_of, read_event, read_hit, read_miss}
 use Rattle.xdd_ops.proofs.lines.read_line.Goals as goal

@@ -1,5 +1,5 @@
 use Rattle.std.proofs.Common.{[], ◌∷◌, sym, ◌∙◌}
-use Rattle.wx_base.specs.Cursor.{rest}
+use Rattle.wx_text.specs.Cursor.{rest}
 use Rattle.xdd_ops.proofs.ReadLemmas.{passed, zero_text, number_text, failed}
 use Rattle.xdd_ops.proofs.NumberLemmas.{zero_again, number_same}
 use Rattle.xdd_ops.proofs.lines.read_number.Goals as goal

@@ -1,5 +1,5 @@
 use Rattle.std.proofs.Common.{ℕ, ◌<◌, List, length, Result, Ok, Err, IfOk}
-use Rattle.wx_base.specs.declared.memory.NoMemory.{NoMemory}
+use Rattle.wx_text.specs.declared.memory.NoMemory.{NoMemory}
 use Rattle.xdd_table.specs.declared.node.Dd.{Dd}
 use Rattle.xdd_table.specs.declared.node.Node.{Node}
 use Rattle.xdd_table.specs.declared.node.Node.TheVariants.{Branch}

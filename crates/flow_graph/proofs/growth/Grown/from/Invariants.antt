@@ -1,8 +1,0 @@
-use Rattle.flow_graph.specs.Growth.{IsGrowing}
-use Rattle.flow_graph.proofs.growth.Grown.from.Given as goal
-
-abbrev pub ghost-step : goal.ghost-step
-ghost-step g a = g.of
-
-abbrev pub invariant-loop-at : goal.invariant-loop-at
-invariant-loop-at g l = IsGrowing g.of l.machine l.start l.at l.grown.insns.items l.grown.events.items

@@ -1,4 +1,0 @@
-use Rattle.flow_graph.proofs.growth.ends_behind.Given as goal
-
-abbrev pub ghost-is_leader : goal.ghost-is_leader
-ghost-is_leader g a = g.of

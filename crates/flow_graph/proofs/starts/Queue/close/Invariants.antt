@@ -1,8 +1,0 @@
-use Rattle.flow_graph.specs.Starts.{StartsTo}
-use Rattle.flow_graph.proofs.starts.Queue.close.Given as goal
-
-abbrev pub ghost-step : goal.ghost-step
-ghost-step g a = g.of
-
-abbrev pub invariant-loop-at : goal.invariant-loop-at
-invariant-loop-at g l = StartsTo g.of l.machine l.addresses l.self.marks.items l.self.queue.items l.at

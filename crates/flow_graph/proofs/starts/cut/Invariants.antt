@@ -1,4 +1,0 @@
-use Rattle.flow_graph.proofs.starts.cut.Given as goal
-
-abbrev pub ghost-from : goal.ghost-from
-ghost-from g a = g.of

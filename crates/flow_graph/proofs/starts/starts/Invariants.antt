@@ -1,4 +1,0 @@
-use Rattle.flow_graph.proofs.starts.starts.Given as goal
-
-abbrev pub ghost-close : goal.ghost-close
-ghost-close g a = g.of

@@ -1,0 +1,4 @@
+mod HeadLemmas
+mod ProgramLemmas
+mod BlockLemmas
+mod PastLemmas

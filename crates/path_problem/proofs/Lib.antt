@@ -1,0 +1,11 @@
+pub mod Sums
+pub mod WalkLemmas
+pub mod CountLemmas
+pub mod LawLemmas
+pub mod WindowLemmas
+pub mod TollLemmas
+pub mod CheckLemmas
+pub mod LabelLemmas
+pub mod NetLemmas
+pub mod ChainLemmas
+pub mod WholeLemmas

@@ -1,0 +1,9 @@
+pub mod Graph
+pub mod Weight
+pub mod Conditions
+pub mod Potential
+pub mod Law
+pub mod Window
+pub mod Net
+pub mod Chain
+pub mod Whole

@@ -1,0 +1,16 @@
+mod RunLemmas
+mod StepLemmas
+mod SlowLemmas
+mod EndLemmas
+mod FlowLemmas
+mod RangeLemmas
+mod KeptLemmas
+mod CodeLemmas
+mod ImageLemmas
+mod MoveLemmas
+mod ChainLemmas
+mod ReachLemmas
+mod InsideLemmas
+mod StayLemmas
+mod StopLemmas
+mod GoingLemmas

@@ -1,5 +1,0 @@
-use Rattle.std.proofs.Common.{arith}
-use Rattle.run_machine.proofs.laws.words_fit.Goals as goal
-
-pub returns : goal.returns
-returns c = λ k. omega (arith, c.type_inv.words k)

@@ -1,0 +1,79 @@
+use Rattle.std.proofs.Common.{[], ◌∷◌, ◌≡◌, map, string_bytes, refl, subst, length, arith}
+use Rattle.wcet_front.specs.FileLaws.{appends_nothing}
+use Rattle.wcet_cli.specs.Commands.{Flat, Run, IsForm, form_of, run_words}
+use Rattle.wcet_cli.specs.Call.{NoForm}
+use Rattle.wcet_cli.proofs.Answering.{answers_form, starves_form, due_form, asked_form}
+use Rattle.wcet_cli.proofs.answer_to.Goals as goal
+
+pub returns-in-Some-Flat-clause-cause : goal.returns-in-Some-Flat-clause-cause
+returns-in-Some-Flat-clause-cause g c =
+    let words = map string_bytes c.args.words.now in
+    let form = Flat c.in-Some-Flat.code.now in
+    let is : IsForm words form = subst (λ x. IsForm words (form_of x)) c.in-Some-Flat.field-0-is c.in-Some-Flat.ensures in
+    answers_form words form is c.flat.result _ c.flat.ensures.cause
+
+pub returns-in-Some-Flat-clause-starved : goal.returns-in-Some-Flat-clause-starved
+returns-in-Some-Flat-clause-starved g c =
+    let words = map string_bytes c.args.words.now in
+    let form = Flat c.in-Some-Flat.code.now in
+    let is : IsForm words form = subst (λ x. IsForm words (form_of x)) c.in-Some-Flat.field-0-is c.in-Some-Flat.ensures in
+    starves_form words form is c.flat.result _ c.flat.ensures.starved
+
+pub returns-in-Some-Flat-clause-due : goal.returns-in-Some-Flat-clause-due
+returns-in-Some-Flat-clause-due g c contents due told d =
+    let words = map string_bytes c.args.words.now in
+    let form = Flat c.in-Some-Flat.code.now in
+    let is : IsForm words form = subst (λ x. IsForm words (form_of x)) c.in-Some-Flat.field-0-is c.in-Some-Flat.ensures in
+    due_form words form is c.flat.result contents due (λ cause free. c.flat.ensures.due contents due told cause free) d
+
+pub returns-in-Some-Flat-clause-asked : goal.returns-in-Some-Flat-clause-asked
+returns-in-Some-Flat-clause-asked g c names named =
+    let words = map string_bytes c.args.words.now in
+    let form = Flat c.in-Some-Flat.code.now in
+    let is : IsForm words form = subst (λ x. IsForm words (form_of x)) c.in-Some-Flat.field-0-is c.in-Some-Flat.ensures in
+    asked_form words names form _ _ is named (omega (arith, c.flat.ensures.asked))
+
+pub returns-in-Some-Flat-clause-unasked : goal.returns-in-Some-Flat-clause-unasked
+returns-in-Some-Flat-clause-unasked g c unfit =
+    let words = map string_bytes c.args.words.now in
+    let form = Flat c.in-Some-Flat.code.now in
+    let is : IsForm words form = subst (λ x. IsForm words (form_of x)) c.in-Some-Flat.field-0-is c.in-Some-Flat.ensures in
+    absurd (unfit (record { form = form; is = is }))
+
+pub returns-in-Some-Run-clause-cause : goal.returns-in-Some-Run-clause-cause
+returns-in-Some-Run-clause-cause g c =
+    let words = map string_bytes c.args.words.now in
+    let form = Run (run_words c.in-Some-Run.run') in
+    let is : IsForm words form = subst (λ x. IsForm words (form_of x)) c.in-Some-Run.field-0-is c.in-Some-Run.ensures in
+    answers_form words form is c.run.result _ c.run.ensures.cause
+
+pub returns-in-Some-Run-clause-starved : goal.returns-in-Some-Run-clause-starved
+returns-in-Some-Run-clause-starved g c =
+    let words = map string_bytes c.args.words.now in
+    let form = Run (run_words c.in-Some-Run.run') in
+    let is : IsForm words form = subst (λ x. IsForm words (form_of x)) c.in-Some-Run.field-0-is c.in-Some-Run.ensures in
+    starves_form words form is c.run.result _ c.run.ensures.starved
+
+pub returns-in-Some-Run-clause-due : goal.returns-in-Some-Run-clause-due
+returns-in-Some-Run-clause-due g c contents due told d =
+    let words = map string_bytes c.args.words.now in
+    let form = Run (run_words c.in-Some-Run.run') in
+    let is : IsForm words form = subst (λ x. IsForm words (form_of x)) c.in-Some-Run.field-0-is c.in-Some-Run.ensures in
+    due_form words form is c.run.result contents due (λ cause free. c.run.ensures.due contents due told cause free) d
+
+pub returns-in-Some-Run-clause-asked : goal.returns-in-Some-Run-clause-asked
+returns-in-Some-Run-clause-asked g c names named =
+    let words = map string_bytes c.args.words.now in
+    let form = Run (run_words c.in-Some-Run.run') in
+    let is : IsForm words form = subst (λ x. IsForm words (form_of x)) c.in-Some-Run.field-0-is c.in-Some-Run.ensures in
+    asked_form words names form _ _ is named (omega (arith, c.run.ensures.asked))
+
+pub returns-in-Some-Run-clause-unasked : goal.returns-in-Some-Run-clause-unasked
+returns-in-Some-Run-clause-unasked g c unfit =
+    let words = map string_bytes c.args.words.now in
+    let form = Run (run_words c.in-Some-Run.run') in
+    let is : IsForm words form = subst (λ x. IsForm words (form_of x)) c.in-Some-Run.field-0-is c.in-Some-Run.ensures in
+    absurd (unfit (record { form = form; is = is }))
+
+pub returns-in-None-clause-cause : goal.returns-in-None-clause-cause
+returns-in-None-clause-cause g c = NoForm c.in-None.ensures (appends_nothing _) refl

@@ -1,0 +1,5 @@
+//! The commands, a module each.
+
+pub(crate) mod flat;
+pub(crate) mod run;
+mod straight;

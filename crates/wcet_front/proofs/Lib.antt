@@ -1,0 +1,6 @@
+pub mod Stopping
+pub mod NoFacts
+pub mod Unread
+pub mod OneStart
+pub mod Putting
+pub mod OneFlowRefusal

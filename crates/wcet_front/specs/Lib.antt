@@ -1,0 +1,10 @@
+pub mod RefusalText
+pub mod ReportText
+pub mod Reply
+pub mod Growth
+pub mod Files
+pub mod Stages
+pub mod Handing
+pub mod Inputs
+pub mod StageLaws
+pub mod FileLaws

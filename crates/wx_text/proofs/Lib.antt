@@ -1,0 +1,4 @@
+pub mod DigitLemmas
+mod FromStart
+mod Decimals
+mod HexDigits

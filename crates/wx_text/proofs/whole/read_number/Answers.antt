@@ -1,0 +1,1 @@
+-- A number that fits 32 bits, of those that fit 64.
