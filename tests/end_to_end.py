@@ -12,6 +12,7 @@ import os
 import pathlib
 import re
 import shutil
+import struct
 import subprocess
 import sys
 import tempfile
@@ -129,6 +130,72 @@ def try_run():
     expect("the image before the facts", run_words(image="empty.bin", facts="empty.bin"), 4, "image Short 0")
 
 
+def elf_of(words, length=None):
+    """An executable with these words of code from address 0x8000 on, where it begins; its file has the length."""
+    code = b"".join(word.to_bytes(4, "little") for word in words)
+    header = b"\x7fELF\x01\x01\x01" + bytes(9) + struct.pack("<HHIIIIIHHHHHH", 2, 40, 1, 0x8000, 52, 0, 0, 52, 32, 1, 0, 0, 0)
+    load = struct.pack("<IIIIIIII", 1, 84, 0x8000, 0x8000, len(code), len(code), 5, 4)
+    file = header + load + code
+    return file + bytes((length or len(file)) - len(file))
+
+
+def straight_time(count):
+    """The time on the machine of the examples, from an empty cache, of so many moves and the call of the supervisor behind
+    them: the recurrence of docs/MODEL.md for a width of 1 and a queue of 2, where each fourth fetch misses."""
+    fetched = [0, 0]
+    decoded = [0, 0]
+    begun = ended = done = 0
+    for number in range(count + 1):
+        begin = max(fetched[-1], decoded[-2])
+        fetched.append(max(begin + (9 if number % 4 == 0 else 1), fetched[-1]))
+        decoded.append(max(fetched[-1], decoded[-1], begun))
+        begun = max(decoded[-1] + 1, begun + 1)
+        ended = begun + 1
+        done = max(ended, done + 1)
+        del fetched[:-2], decoded[:-2]
+    return done
+
+
+def try_sizes():
+    move, end, call, push, pop, back = 0xE3A00000, 0xEF000000, 0xEB000000, 0xE92D4000, 0xE8BD8000, 0xE12FFF1E
+    put("none.ffx", b"<flowfacts/>")
+    put("cold.txt", b"wx-start 1\nend\n")
+
+    def words(image, most="1000000000", **changed):
+        return run_words(image=image, **{"facts": "none.ffx", "start": "cold.txt", "most": most, **changed})
+
+    put("longest.elf", elf_of([move, end], LONGEST))
+    put("too-long.elf", elf_of([move, end], LONGEST + 1))
+    expect("the longest executable", words("longest.elf"), 0, "time 12 steps 2 end ended")
+    expect("an executable of one byte more", words("too-long.elf"), 10, "large file too-long.elf")
+
+    straight = 65535
+    put("straight.elf", elf_of([move] * straight + [end]))
+    expect("65,536 instructions that are reached", words("straight.elf"), 0, f"time {straight_time(straight)} steps {straight + 1} end ended")
+
+    # Each function saves lr, calls the next one, which stands behind it, and returns; sp begins above the code.
+    depth = 3000
+    put("deep.elf", elf_of([call, end] + [push, call, pop] * depth + [back]))
+    put("stack.txt", b"wx-start 1\nreg 13 40000000\nend\n")
+    status, line, error = run(words("deep.elf", start="stack.txt"))
+    judge("3,000 open calls", (status, line.split()[2:], error), (0, [b"steps", b"%d" % (3 * depth + 3), b"end", b"ended"], b""))
+
+    put("two.elf", elf_of([move, end]))
+    put("sets.toml", (EXAMPLES / "m1.toml").read_bytes().replace(b"sets = 2", b"sets = 1024"))
+    put("sets.txt", b"wx-start 1\n" + b"".join(b"set %d %08x\n" % (number, number + 1024 * (number == 0) * 2) for number in range(1024)) + b"end\n")
+    expect("a cache of 1,024 sets", words("two.elf", machine="sets.toml", start="sets.txt"), 0, "time 4 steps 2 end ended")
+    put("bytes.txt", b"wx-start 1\n" + b"".join(b"byte %08x 5a\n" % (0x20000000 + place) for place in range(65536)) + b"end\n")
+    expect("a start of 65,536 bytes", words("two.elf", start="bytes.txt"), 0, "time 12 steps 2 end ended")
+    put("loops.ffx", b"<flowfacts>" + b"".join(b'<loop address="0x%x" maxcount="1"/>' % (0x10000 + 4 * place) for place in range(65536)) + b"</flowfacts>")
+    expect("facts on 65,536 loops", words("two.elf", facts="loops.ffx"), 0, "time 12 steps 2 end ended")
+
+    expect("an entry's name of a kilobyte", words("two.elf", entry="n" * 1024), 4, "image NoEntry " + "n" * 1024)
+    long_name = "/".join(["d" * 200] * 5) + "/two.bin"
+    os.makedirs(os.path.dirname(long_name))
+    put(long_name, TWO_WORDS)
+    expect("a file's name of a kilobyte", ["flat", long_name], 0, "bound 20")
+
+
 def try_outputs():
     with open("/dev/full", "wb") as full:
         done = subprocess.run([str(PROGRAM), "flat", "two.bin"], stdout=full, stderr=subprocess.PIPE, timeout=100)
@@ -173,7 +240,7 @@ def main():
     room = tempfile.mkdtemp()
     try:
         os.chdir(room)
-        for group in (try_forms, try_flat, try_names, try_run, try_outputs, try_documents):
+        for group in (try_forms, try_flat, try_names, try_run, try_sizes, try_outputs, try_documents):
             group()
     finally:
         os.chdir("/")

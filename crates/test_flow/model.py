@@ -298,6 +298,8 @@ def outcome(line):
 def main():
     here = pathlib.Path(__file__).parent
     for name in (here / "args").read_text().split():
+        if name == "unfoldings.txt":  # these were worked out by hand
+            continue
         for line in (here / "data" / name).read_text().splitlines():
             print(line if not line or line.startswith("#") else f"{line} ->{outcome(line)}")
 

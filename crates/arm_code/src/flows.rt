@@ -19,8 +19,8 @@ fn may_pass(cond: u8) -> bool
     cond != ALWAYS
 }
 
-/// Nothing goes on.
-fn no_flow() -> FlowKind
+/// What a word outside the subset is to the flow: nothing goes on.
+pub fn no_flow() -> FlowKind
     ensures { result ≡ no_flow }
 {
     FlowKind {

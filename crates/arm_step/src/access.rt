@@ -34,8 +34,8 @@ pub(crate) fn half_at(memory: &Memory, image: &Image, addr: u32) -> u32
     u32::from(low) + 256 * u32::from(high)
 }
 
-/// The word at an address, the lowest byte first. Addresses are modulo 2^32.
-pub(crate) fn word_at(memory: &Memory, image: &Image, addr: u32) -> u32
+/// The word that the machine finds at an address, the lowest byte first. Addresses are modulo 2^32.
+pub fn word_at(memory: &Memory, image: &Image, addr: u32) -> u32
     ensures { result ≡ word_in (held image.now memory.now) addr }
 {
     u32::from_le_bytes([

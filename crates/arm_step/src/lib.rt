@@ -11,6 +11,7 @@ mod shifter;
 mod step_end;
 mod transfer;
 
+pub use access::word_at;
 pub use cpu::Cpu;
 pub use execution::step;
 pub use step_end::StepEnd;

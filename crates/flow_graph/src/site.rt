@@ -2,13 +2,13 @@
 
 ghost use Rattle.std.specs.Prelude.{◌≡◌, true, IfOk, Some};
 ghost use Rattle.wx_base.specs.Facts.{FactsAscend};
-ghost use Rattle.wx_base.specs.Flow.{flow_of, no_flow};
+ghost use Rattle.wx_base.specs.Flow.{flow_of};
 ghost use Rattle.wx_base.specs.Image.{is_code_word, word_of};
 ghost use Rattle.arm_code.specs.Encoding.{decoded};
 ghost use Rattle.flow_graph.specs.Reached.{IsSite};
 
 use crate::insn_ways::ways_by;
-use arm_code::{FlowKind, Insn, decode, flow};
+use arm_code::{FlowKind, Insn, decode, flow, no_flow};
 use flow_block::callees;
 use smallvec::SmallVec;
 use std::alloc::Global;
@@ -48,21 +48,6 @@ fn read(word: u32, address: u32) -> (Option<Insn>, FlowKind)
     match decode(word) {
         Some(insn) => (Some(insn), flow(&insn, address)),
         None => (None, no_flow()),
-    }
-}
-
-/// Nothing goes on.
-fn no_flow() -> FlowKind
-    ensures { result ≡ no_flow }
-{
-    FlowKind {
-        next: false,
-        jump: None,
-        call: None,
-        call_any: false,
-        ret: false,
-        indirect: false,
-        stop: false,
     }
 }
 

@@ -25,6 +25,7 @@ use Rattle.flow_block.specs.Blocks.{Begins, IsLeader, IsLength, IsOfFunction}
 use Rattle.flow_block.specs.Blocks.Begins.{leader, cut}
 use Rattle.flow_block.specs.Blocks.IsLeader.{first, target, after_end}
 use Rattle.flow_block.specs.Sites.{behind, flow_at, is_end, jumps_by}
+use Rattle.run_laws.specs.CodeBytes.{HasByte, code_has_byte}
 use Rattle.run_laws.specs.Reached.{LeadsToInstructions}
 use Rattle.graph_loops.specs.Laws.{HeadsAreEntered, SingleEdgesKeepMembership}
 use Rattle.flow_laws.specs.Programs.{EndsInMemory, BlocksLieInLoops}
@@ -32,30 +33,6 @@ use Rattle.flow_laws.proofs.HeadLemmas.{begins_block, none_there, word_below, wa
 use Rattle.flow_laws.proofs.ProgramLemmas.{leads, one_more}
 
 -- ---- a word of code has a word
-
-record HasByte (image : Image) (address : ℕ) : Type 0 where
-  byte : ℕ
-  is : byte_of image address ≡ Some byte
-
-segment_found : (address : ℕ) (s : Segment) (rest : Option Segment) (b : Bool) → spans address s ≡ b → (b ≡ true) ⊎ ((t : Segment) × (rest ≡ Some t)) → (t : Segment) × (cond b (Some s) rest ≡ Some t)
-segment_found address s rest true e h = (s, refl)
-segment_found address s rest false e (inl h) = absurd (false≢true h)
-segment_found address s rest false e (inr h) = h
-
-code_found : (address : ℕ) (segments : List Segment) → list_any (λ segment. segment.code && spans address segment) segments ≡ true
-    → (t : Segment) × (find (λ segment. spans address segment) segments ≡ Some t)
-code_found address [] e = absurd (false≢true e)
-code_found address (s ∷ segments) e =
-    segment_found address s (find (λ segment. spans address segment) segments) (spans address s) refl
-    (elim (or_cases (s.code && spans address s) (list_any (λ segment. segment.code && spans address segment) segments) e) [
-      | inl h ↦ inl (and_parts s.code (spans address s) h).1
-      | inr h ↦ inr (code_found address segments h)
-    ])
-
-has_byte : (image : Image) (address : ℕ) → has_code image address ≡ true → HasByte image address
-has_byte image address e =
-    let found = code_found address image.segments e in
-    record { byte = byte_in found.0 address; is = ap (option_map (λ segment. byte_in segment address)) found.1 }
 
 is_zero : (n : ℕ) → eqb n 0 ≡ true → n ≡ 0
 is_zero n e = grind (arith, nat_tests)
@@ -72,7 +49,7 @@ has_word image a small code =
     let a1 = and_parts ((a % 4 == 0) && has_code image a) (has_code image (a + 1)) a2.0 in
     let a0 = and_parts (a % 4 == 0) (has_code image a) a1.0 in
     let whole : a % 4 ≡ 0 = is_zero (a % 4) a0.0 in
-    let b0 = has_byte image a a0.1 in
+    let b0 = code_has_byte image a a0.1 in
     let b1 = next 1 whole (omega arith) a1.1 in
     let b2 = next 2 whole (omega arith) a2.1 in
     let b3 = next 3 whole (omega arith) a3.1 in
@@ -82,7 +59,7 @@ has_word image a small code =
     }
   where
     next : (k : ℕ) → a % 4 ≡ 0 → k < 4 → has_code image (a + k) ≡ true → HasByte image (add_words a k)
-    next k whole few h = let e : add_words a k ≡ a + k = omega arith in has_byte image (add_words a k) (ap (has_code image) e ∙ h)
+    next k whole few h = let e : add_words a k ≡ a + k = omega arith in code_has_byte image (add_words a k) (ap (has_code image) e ∙ h)
 
 -- ---- what does not end a block goes on
 

@@ -5,7 +5,7 @@ use Rattle.std.proofs.lemmas.Int.{ints}
 use Rattle.std.proofs.lemmas.List.{get_or-set_same, get_or-set_other}
 use Rattle.std.proofs.Math.ListN.{length-set}
 use Rattle.path_problem.specs.declared.net.Link.{Link}
-use Rattle.path_problem.specs.Graph.{total}
+use Rattle.path_problem.specs.Graph.{weight_along}
 use Rattle.path_problem.specs.Net.{link_at, link_weight, IsLinked, AreLinks, Gain, Comes, PointsOn, AreLabels}
 use Rattle.path_problem.specs.Chain.{IsChain, AreRanks}
 use Rattle.path_problem.proofs.Sums.{by_same}
@@ -136,14 +136,14 @@ module _ (links : List Link) (count price bound : ℕ) (start values : List ℤ)
   falls_once i u v le (inl o) = inr (omega (arith, ints), o)
   falls_once i u v le (inr s) = inl (omega (arith, ints))
 
-  pub chain_falls : (walk : List ℕ) (i u v : ℕ) → u < count → IsChain links next u (i ∷ walk) v → Falls u (total (link_weight links price) (i ∷ walk)) v
+  pub chain_falls : (walk : List ℕ) (i u v : ℕ) → u < count → IsChain links next u (i ∷ walk) v → Falls u (weight_along (link_weight links price) (i ∷ walk)) v
   chain_falls [] i u v h c =
       let p = points_at u i h c.0 in
       let F : ℕ → Type 0 = λ w. Falls u (link_weight links price i +ℤ pos 0) w in
       subst F c.1 (falls_once i u (link_at links i).to p.2 p.3)
   chain_falls (j ∷ walk) i u v h c =
       let p = points_at u i h c.0 in
-      falls_on i u (link_at links i).to v (total (link_weight links price) (j ∷ walk)) p.2 p.3 (chain_falls walk j (link_at links i).to v (sound.to i p.0) c.1)
+      falls_on i u (link_at links i).to v (weight_along (link_weight links price) (j ∷ walk)) p.2 p.3 (chain_falls walk j (link_at links i).to v (sound.to i p.0) c.1)
 
   -- a closed chain gains
   pub closed_chain_gains : (walk : List ℕ) (i u : ℕ) → u < count → IsChain links next u (i ∷ walk) u → Gain links price (i ∷ walk)

@@ -11,10 +11,10 @@ use Rattle.std.proofs.Math.Nat.{mul-le-mul_left}
 use Rattle.path_problem.specs.declared.graph.Graph.{Graph}
 use Rattle.path_problem.specs.declared.graph.LoopArcs.{LoopArcs}
 use Rattle.path_problem.specs.declared.graph.LoopPrices.{LoopPrices}
-use Rattle.path_problem.specs.Graph.{has, arc_at, loop_at, finish_at, total}
+use Rattle.path_problem.specs.Graph.{has, arc_at, loop_at, finish_at, weight_along}
 use Rattle.path_problem.specs.Weight.{Toll, gain_of, loss_of, weight_under, total_price, price_toll, price_tolls, full_weight}
 use Rattle.path_problem.specs.Conditions.{IsGraph, IsLoop, HasPrices}
-use Rattle.path_problem.specs.Law.{turns, is_total, KeepsCount, KeepsCounts, begun, totals_worth, PricesBoundWalks}
+use Rattle.path_problem.specs.Law.{turns, is_total, KeepsCount, KeepsCounts, loops_worth, totals_worth, PricesBoundWalks}
 use Rattle.path_problem.proofs.Sums.{by_test, sum_by-both, sum_by-less, sum_by-none, sum_by-map, sum_below, sum_below-both, sum_below-none, sum_below-less, sum_below-one, products_below, All-zip}
 use Rattle.path_problem.proofs.CountLemmas.{count_by-cons, entries_of, turns-le}
 use Rattle.path_problem.proofs.WalkLemmas.{telescope, walk_end}
@@ -45,7 +45,7 @@ abbrev pub own : Graph → ℕ → ℤ
 own g a = (arc_at g a).weight
 
 -- the weights along a walk are its own, with what it gains and loses
-pub total-weight_under : (g : Graph) (tolls : List Toll) (walk : List ℕ) → (total (weight_under g tolls) walk +ℤ pos (losses tolls walk)) ≡ (total (own g) walk +ℤ pos (gains tolls walk))
+pub total-weight_under : (g : Graph) (tolls : List Toll) (walk : List ℕ) → (weight_along (weight_under g tolls) walk +ℤ pos (losses tolls walk)) ≡ (weight_along (own g) walk +ℤ pos (gains tolls walk))
 total-weight_under g tolls [] =
     let l = sum_by-none (λ (t : Toll). t.loss * 0) (λ t. omega arith) tolls in
     let m = sum_by-none (λ (t : Toll). t.gain * 0) (λ t. omega arith) tolls in
@@ -124,7 +124,7 @@ module _ (g : Graph) (prices : LoopPrices) (graph : IsGraph g) (priced : HasPric
       All-zip Within (record { members = []; back = []; entries = []; maxcount = 0; total = None }) 0 g.loops prices.loops priced.loops
       (λ i h. one_within (loop_at g i) (get_or prices.loops i 0) (graph.loops i h) (keeps.loops i h))
 
-  pub loops_pay : losses (price_tolls g prices) walk ≤ (gains (price_tolls g prices) walk + begun g prices v) + totals_worth g prices
+  pub loops_pay : losses (price_tolls g prices) walk ≤ (gains (price_tolls g prices) walk + loops_worth g prices v) + totals_worth g prices
   unfolding Within
   loops_pay =
       let pairs = zip g.loops prices.loops in

@@ -9,3 +9,10 @@ pub mod LabelLemmas
 pub mod NetLemmas
 pub mod ChainLemmas
 pub mod WholeLemmas
+pub mod LeastLemmas
+pub mod PartLemmas
+pub mod NeedLemmas
+pub mod ClosedLemmas
+pub mod SolutionLemmas
+pub mod ChoiceLemmas
+pub mod TestedLemmas

@@ -14,7 +14,7 @@ use Rattle.path_problem.specs.declared.graph.LoopPrices.{LoopPrices}
 use Rattle.path_problem.specs.declared.graph.TheConstants.{LARGEST}
 use Rattle.path_problem.specs.declared.net.Link.{Link}
 use Rattle.path_problem.specs.Conditions.{IsWithin, IsGraph}
-use Rattle.path_problem.specs.Graph.{arc_at, finish_at, IsWalk, total}
+use Rattle.path_problem.specs.Graph.{arc_at, finish_at, IsWalk, weight_along}
 use Rattle.path_problem.specs.Net.{link_at, link_weight, IsLinked, AreLinks, Gain, HasSettled, SettlesOrGains}
 use Rattle.path_problem.specs.Weight.{price_tolls, full_weight}
 use Rattle.path_problem.specs.Window.{AreWeights, weight_limit}
@@ -58,12 +58,12 @@ module _ (g : Graph) (prices : LoopPrices) (links : List Link) (are : AreArcs g 
       let l = is_arc i h.0 in
       (l.within, sym l.from ∙ h.1, subst (λ (w : ℕ). IsWalk g w (arcs_of walk) v) l.to (linked_walk walk (link_at links i).to v h.2))
 
-  pub linked_total : (walk : List ℕ) (u v : ℕ) → IsLinked links u walk v → total (link_weight links 0) walk ≡ total (full_weight g prices) (arcs_of walk)
+  pub linked_total : (walk : List ℕ) (u v : ℕ) → IsLinked links u walk v → weight_along (link_weight links 0) walk ≡ weight_along (full_weight g prices) (arcs_of walk)
   linked_total [] u v h = refl
   linked_total (i ∷ walk) u v h =
       let here = weight_is i h.0 in
       let rest = linked_total walk (link_at links i).to v h.2 in
-      ap (λ z. z +ℤ total (link_weight links 0) walk) here ∙ ap (λ z. full_weight g prices (link_at links i).arc +ℤ z) rest
+      ap (λ z. z +ℤ weight_along (link_weight links 0) walk) here ∙ ap (λ z. full_weight g prices (link_at links i).arc +ℤ z) rest
 
   pub sound_links : IsGraph g → AreLinks links (length g.finish) 0 (weight_limit (2 ^ 16))
   sound_links graph = record {

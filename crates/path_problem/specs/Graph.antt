@@ -29,9 +29,9 @@ IsWalk g u [] v = u ≡ v
 IsWalk g u (a ∷ walk) v = (a < length g.arcs) × ((arc_at g a).from ≡ u) × IsWalk g (arc_at g a).to walk v
 
 -- the sum of the weights along a walk
-abbrev pub total : (ℕ → ℤ) → List ℕ → ℤ
-total weight [] = pos 0
-total weight (a ∷ walk) = weight a +ℤ total weight walk
+abbrev pub weight_along : (ℕ → ℤ) → List ℕ → ℤ
+weight_along weight [] = pos 0
+weight_along weight (a ∷ walk) = weight a +ℤ weight_along weight walk
 
 -- each arc of the walk begins at a member of the loop
 abbrev pub IsInside : Graph → LoopArcs → List ℕ → Type 0

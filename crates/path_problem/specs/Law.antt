@@ -5,7 +5,7 @@ use Rattle.std.specs.List.{sum_by, zip, list_any}
 use Rattle.path_problem.specs.declared.graph.Graph.{Graph}
 use Rattle.path_problem.specs.declared.graph.LoopArcs.{LoopArcs}
 use Rattle.path_problem.specs.declared.graph.LoopPrices.{LoopPrices}
-use Rattle.path_problem.specs.Graph.{has, arc_at, loop_at, finish_at, IsWalk, total}
+use Rattle.path_problem.specs.Graph.{has, arc_at, loop_at, finish_at, IsWalk, weight_along}
 use Rattle.path_problem.specs.Conditions.{IsGraph, HasPrices}
 use Rattle.path_problem.specs.Potential.{Cover}
 
@@ -40,8 +40,8 @@ pub record KeepsCounts (g : Graph) (v : ℕ) (walk : List ℕ) : Type 0 where
   pub totals : (k : ℕ) → k < length g.totals → total_turns g walk k ≤ slice_index g.totals k
 
 -- what the loops around the first vertex allow, each as many turns as its count at its price
-abbrev pub begun : Graph → LoopPrices → ℕ → ℕ
-begun g prices v = sum_by (λ (l, price). (if has l.members v then l.maxcount * price else 0)) (zip g.loops prices.loops)
+abbrev pub loops_worth : Graph → LoopPrices → ℕ → ℕ
+loops_worth g prices v = sum_by (λ (l, price). (if has l.members v then l.maxcount * price else 0)) (zip g.loops prices.loops)
 
 -- what the totals allow, each at its price
 abbrev pub totals_worth : Graph → LoopPrices → ℕ
@@ -52,5 +52,5 @@ totals_worth g prices = sum_by (λ (count, price). count * price) (zip g.totals 
 abbrev pub PricesBoundWalks : Type 0
 PricesBoundWalks = (g : Graph) (prices : LoopPrices) (p : List ℕ) → IsGraph g → HasPrices g prices → Cover g prices p
     → (v w : ℕ) (walk : List ℕ) → v < length g.finish → IsWalk g v walk w → KeepsCounts g v walk
-    → (total (λ a. (arc_at g a).weight) walk +ℤ finish_at g w)
-    ≤ℤ pos (slice_index p v + begun g prices v + totals_worth g prices)
+    → (weight_along (λ a. (arc_at g a).weight) walk +ℤ finish_at g w)
+    ≤ℤ pos (slice_index p v + loops_worth g prices v + totals_worth g prices)

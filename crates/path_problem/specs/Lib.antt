@@ -5,5 +5,11 @@ pub mod Potential
 pub mod Law
 pub mod Window
 pub mod Net
+pub mod Least
+pub mod Need
+pub mod Part
 pub mod Chain
 pub mod Whole
+pub mod Choice
+pub mod Solution
+pub mod Tested

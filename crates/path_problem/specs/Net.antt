@@ -8,7 +8,7 @@ use Rattle.path_problem.specs.declared.net.Link.{Link}
 use Rattle.path_problem.specs.declared.net.Settlement.{Settlement}
 use Rattle.path_problem.specs.declared.net.Settlement.TheVariants.{Settled, Gains}
 use Rattle.path_problem.specs.Conditions.{IsWithin}
-use Rattle.path_problem.specs.Graph.{total}
+use Rattle.path_problem.specs.Graph.{weight_along}
 use Rattle.path_problem.specs.Window.{weight_limit}
 
 -- the link with a number
@@ -39,14 +39,14 @@ pub record IsSettled (links : List Link) (price : ℕ) (values : List ℤ) : Typ
 pub record Gain (links : List Link) (price : ℕ) (walk : List ℕ) : Type 0 where
   pub first : ℕ
   pub closed : IsLinked links first walk first
-  pub gains : pos 0 <ℤ total (link_weight links price) walk
+  pub gains : pos 0 <ℤ weight_along (link_weight links price) walk
 
 -- a walk along links from one number comes to a value, with the start value of its last
 pub record Comes (links : List Link) (price : ℕ) (start : List ℤ) (u : ℕ) (value : ℤ) : Type 0 where
   pub walk : List ℕ
   pub last : ℕ
   pub is : IsLinked links u walk last
-  pub sums : (total (link_weight links price) walk +ℤ slice_index_or start last (pos 0)) ≡ value
+  pub sums : (weight_along (link_weight links price) walk +ℤ slice_index_or start last (pos 0)) ≡ value
 
 -- A number points nowhere, and has its start value; or it points along a link from it, and its value is at most the link's weight
 -- and the value there. It is less, unless that value is older than its own.

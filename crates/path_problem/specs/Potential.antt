@@ -5,7 +5,7 @@ use Rattle.std.specs.List.{All}
 use Rattle.path_problem.specs.declared.graph.Graph.{Graph}
 use Rattle.path_problem.specs.declared.graph.LoopPrices.{LoopPrices}
 use Rattle.path_problem.specs.declared.graph.TheConstants.{LARGEST}
-use Rattle.path_problem.specs.Graph.{arc_at, finish_at, IsWalk, total}
+use Rattle.path_problem.specs.Graph.{arc_at, finish_at, IsWalk, weight_along}
 use Rattle.path_problem.specs.Weight.{full_weight}
 
 -- the potential of a vertex is at least its finish
@@ -37,7 +37,7 @@ pub record IsBadArc (g : Graph) (prices : LoopPrices) (p : List ℕ) (a : ℕ) :
 
 -- what a walk to a vertex comes to, with the finish there
 abbrev pub worth : Graph → LoopPrices → List ℕ → ℕ → ℤ
-worth g prices walk v = total (full_weight g prices) walk +ℤ finish_at g v
+worth g prices walk v = weight_along (full_weight g prices) walk +ℤ finish_at g v
 
 -- a walk from a vertex that comes to a given sum
 pub record IsReached (g : Graph) (prices : LoopPrices) (v : ℕ) (sum : ℤ) : Type 0 where
@@ -67,7 +67,7 @@ pub record IsVertexLarge (g : Graph) (prices : LoopPrices) (v : ℕ) : Type 0 wh
 
 -- no closed walk has a positive full weight
 pub record NoClosedGain (g : Graph) (prices : LoopPrices) : Type 0 where
-  pub none : (v : ℕ) (walk : List ℕ) → IsWalk g v walk v → total (full_weight g prices) walk ≤ℤ pos 0
+  pub none : (v : ℕ) (walk : List ℕ) → IsWalk g v walk v → weight_along (full_weight g prices) walk ≤ℤ pos 0
 
 -- the inequalities of the arcs from one up to another hold
 pub record AreCovered (g : Graph) (prices : LoopPrices) (p : List ℕ) (first end : ℕ) : Type 0 where

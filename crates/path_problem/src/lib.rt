@@ -1,21 +1,32 @@
-//! The path problem on plain graphs at given prices of loops and totals: potentials, their check, and what that is
+//! The path problem on plain graphs: the least prices of loops and totals, potentials, their check, and what that is
 //! worth.
 #![tactic(auto)]
 
 mod bad_path;
+mod bounds;
 mod chain;
+mod choice;
+mod conditions;
 mod graph;
 mod inequalities;
 mod laws;
+mod least;
+mod needs;
 mod net;
 mod order;
+mod part;
 mod path_error;
 mod potential;
+mod solution;
 mod window;
 
 pub use bad_path::BadPath;
+pub use bounds::{fit, has_natural_finishes, is_bounded};
+pub use choice::{Choice, choose};
+pub use conditions::is_graph;
 pub use graph::{Arc, Graph, LARGEST, LoopArcs, LoopPrices};
 pub use inequalities::check;
 pub use laws::prices_bound_walks;
+pub use needs::prices;
 pub use path_error::PathError;
 pub use potential::potentials;

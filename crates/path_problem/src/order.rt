@@ -24,7 +24,8 @@ pub(crate) fn arcs_in_order(alloc: Global, graph: &Graph) -> Result<Vec<usize>, 
     ensures within { IfOk result (λ order. All (λ a. a < length graph.now.arcs) order.items) }
     ensures each { IfOk result (λ order. (a : ℕ) → a < length graph.now.arcs → Contains order.items a) }
 {
-    let ranks = ranks_in_depth(alloc, graph)?;
+    let owners = vec![in alloc; 0usize; graph.arcs.len()]?;
+    let ranks = ranks_in_depth(alloc, graph, owners.as_slice())?;
     let mut keys = Vec::with_capacity(alloc, graph.arcs.len())?;
     for arc in graph.arcs.as_slice() {
         keys.push(ranks.get(arc.from as usize).copied().unwrap_or(0))?;
@@ -46,9 +47,13 @@ fn numbers_below(alloc: Global, count: usize) -> Result<Vec<usize>, NoMemory>
     Ok(numbers)
 }
 
-/// For each vertex how many others a walk in depth left before it.
-fn ranks_in_depth(alloc: Global, graph: &Graph) -> Result<Vec<usize>, NoMemory> {
-    let targets = targets_of(alloc, graph)?;
+/// For each vertex how many others a walk in depth left before it that takes no arc with an owner.
+pub(crate) fn ranks_in_depth(
+    alloc: Global,
+    graph: &Graph,
+    owners: &[usize],
+) -> Result<Vec<usize>, NoMemory> {
+    let targets = targets_of(alloc, graph, owners)?;
     let count = targets.len();
     let mut ranks = vec![in alloc; 0usize; count]?;
     let mut seen = vec![in alloc; false; count]?;
@@ -89,15 +94,15 @@ fn enter_all(visits: &mut Vec<Visit>, vertices: &[usize]) -> Result<(), NoMemory
     Ok(())
 }
 
-/// For each vertex what its arcs lead to.
-fn targets_of(alloc: Global, graph: &Graph) -> Result<Vec<Vec<usize>>, NoMemory> {
+/// For each vertex what its arcs without owners lead to.
+fn targets_of(alloc: Global, graph: &Graph, owners: &[usize]) -> Result<Vec<Vec<usize>>, NoMemory> {
     let mut targets = Vec::with_capacity(alloc, graph.finish.len())?;
     for _ in 0..graph.finish.len() {
         targets.push(Vec::new(alloc))?;
     }
-    for arc in graph.arcs.as_slice() {
+    for (number, arc) in graph.arcs.as_slice().iter().enumerate() {
         let from = arc.from as usize;
-        if from < targets.len() {
+        if from < targets.len() && owners.get(number).copied().unwrap_or(0) == 0 {
             targets[from].push(arc.to as usize)?;
         }
     }

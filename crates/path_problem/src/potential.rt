@@ -12,19 +12,19 @@ use crate::order::arcs_in_order;
 use crate::path_error::PathError;
 use crate::window::full_weights;
 use std::alloc::Global;
-use wx_text::{List, NoMemory};
+use wx_text::NoMemory;
 
 /// For each vertex the most that a walk from it comes to, with the finish of the walk's last vertex.
 ///
 /// `VertexLarge` names the first vertex for which that is above `LARGEST`.
-pub fn potentials(alloc: Global, graph: &Graph, prices: &LoopPrices) -> Result<List<u64>, PathError>
+pub fn potentials(alloc: Global, graph: &Graph, prices: &LoopPrices) -> Result<Vec<u64>, PathError>
     requires graph { IsGraph graph.now }
     requires bounded { IsBounded graph.now }
     requires prices { HasPrices graph.now prices.now }
     requires few { AreBounded prices.now }
     requires closed { NoClosedGain graph.now prices.now }
     requires finishes { (v : ℕ) → v < length graph.now.finish → pos 0 ≤ℤ finish_at graph.now v }
-    ensures ok { IfOk result (ArePotentials graph.now prices.now) }
+    ensures ok { IfOk result (λ potentials. ArePotentials graph.now prices.now potentials.items) }
     ensures large { (v : ℕ) → result ≡ Err (PathError.VertexLarge v) → IsVertexLarge graph.now prices.now v }
     ensures never { (n : ℕ) → result ≡ Err (PathError.LoopLarge n) → ⊥ }
 {
@@ -115,9 +115,9 @@ fn number_of(value: i128) -> u64
 }
 
 /// Values as potentials, or the first of them that is above `LARGEST`.
-fn numbers(alloc: Global, values: &[i128]) -> Result<List<u64>, PathError>
+fn numbers(alloc: Global, values: &[i128]) -> Result<Vec<u64>, PathError>
     requires { All (λ z. pos 0 ≤ℤ z) values.now }
-    ensures ok { IfOk result (AreNumbers values.now) }
+    ensures ok { IfOk result (λ numbers. AreNumbers values.now numbers.items) }
     ensures large { (v : ℕ) → result ≡ Err (PathError.VertexLarge v) → IsFirstAbove values.now v }
     ensures never { (n : ℕ) → result ≡ Err (PathError.LoopLarge n) → ⊥ }
 {
@@ -130,5 +130,5 @@ fn numbers(alloc: Global, values: &[i128]) -> Result<List<u64>, PathError>
         }
         numbers.push(number_of(*value))?;
     }
-    Ok(List::new(numbers))
+    Ok(numbers)
 }

@@ -50,7 +50,7 @@ pub(crate) struct Rates {
 }
 
 /// Adds the toll of the loop with a number.
-fn add_toll(
+pub(crate) fn add_toll(
     weights: &mut [i128],
     stamps: &mut [u64],
     first: usize,
@@ -114,7 +114,7 @@ pub(crate) fn full_weights(
 }
 
 /// Puts in the weights of the arcs from one on, without prices, and no stamps.
-fn own_weights(graph: &Graph, first: usize, weights: &mut [i128], stamps: &mut [u64])
+pub(crate) fn own_weights(graph: &Graph, first: usize, weights: &mut [i128], stamps: &mut [u64])
     requires bounded { IsBounded graph.now }
     requires arcs { first + length weights.old ≤ length graph.now.arcs }
     requires stamps { length stamps.old ≡ length weights.old }

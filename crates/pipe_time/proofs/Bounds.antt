@@ -11,7 +11,7 @@ use Rattle.wx_base.specs.Bits.{is_in}
 use Rattle.wx_base.specs.Machine.{IsMachine, IsTiming, timing_of}
 use Rattle.std.proofs.lemmas.Nat.{ones-le}
 use Rattle.wx_base.specs.Instruction.{Kind, Block, block_list, kind_of, transfers_by, unit_of, transfers_of, reads_of, writes_of}
-use Rattle.wx_base.specs.Recurrence.{Entry, Done, slot, ago, kept, when, next, window, latest, fe_back, d_back, x_back, c_back, unit_free, latency_of, occupancy_of, same_unit, written}
+use Rattle.wx_base.specs.Recurrence.{Entry, Done, slot, ago, kept, when, next, window, f_of, latest, fe_back, d_back, x_back, c_back, unit_free, latency_of, occupancy_of, same_unit, written}
 use Rattle.wx_base.specs.Vector.{AreWithin}
 use Rattle.pipe_time.specs.Growth.{TimesWithin, TimesGrowLittle, SlotsGrowLittle}
 use Rattle.pipe_time.proofs.Cases.{◌▸◌, width_cases, queue_cases}
@@ -173,3 +173,9 @@ slots_grow_little m bound slots e ok h =
     let free : (next m slots [] e).x + occupancy_of m e ≤ bound + 4016 =
     rw (next_timed m slots [] e) (fits_free _ _ bound s.x (occupancy_within m e ok)) in
     window_within m (bound + 4016) slots (record { entry = e; times = next m slots [] e }) (record { each = λ k. above _ _ 4016 (h.each k) }) t free
+
+-- the next fetch begins no later than the latest slot
+pub base_within : (m : Machine) (bound : ℕ) (slots : List ℕ) → IsMachine m → AreWithin bound slots → f_of m slots [] ≤ bound
+base_within m bound slots ok h =
+    max-le (max-le (h.each 0) (width_cases (λ w. ago w (fe_back slots []) ≤ bound) (h.each 1) (h.each 2) m.width ok.width))
+    (max-le (queue_cases (λ q. ago q (d_back slots []) ≤ bound) (h.each 3) (h.each 4) (h.each 5) (h.each 6) (h.each 7) (h.each 8) (h.each 9) (h.each 10) m.queue ok.queue) (h.each 13))

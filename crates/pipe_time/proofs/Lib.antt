@@ -8,3 +8,6 @@ pub mod Delay
 pub mod Shift
 pub mod Floors
 pub mod GoingOn
+pub mod Greatest
+pub mod Rebased
+pub mod PoolLemmas

@@ -3,3 +3,5 @@ pub mod Windows
 pub mod Growth
 pub mod Order
 pub mod Floor
+pub mod Pool
+pub mod Rebase

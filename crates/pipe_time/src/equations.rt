@@ -13,15 +13,23 @@ use arm_code::{UnitKind, reads, unit};
 use wx_base::Machine;
 
 /// When the next fetch begins.
+pub fn base(slots: &[u64; 35], m: &Machine) -> u64
+    requires { IsMachine m.now }
+    ensures { result ≡ f_of m.now slots.now [] }
+{
+    let fetched = slots[0].max(slots[m.width as usize]);
+    let queued = slots[2 + m.queue as usize];
+    fetched.max(queued.max(slots[13]))
+}
+
+/// The same, where all slots are small.
 pub fn fetch(slots: &[u64; 35], m: &Machine) -> u64
     requires slots { AreWithin (2 ^ 62) slots.now }
     requires machine { IsMachine m.now }
     ensures value { result ≡ f_of m.now slots.now [] }
     ensures small { result ≤ 2 ^ 62 }
 {
-    let fetched = slots[0].max(slots[m.width as usize]);
-    let queued = slots[2 + m.queue as usize];
-    fetched.max(queued.max(slots[13]))
+    base(slots, m)
 }
 
 /// When the fetch that began at `f` ends.

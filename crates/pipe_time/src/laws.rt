@@ -8,6 +8,8 @@ ghost use Rattle.pipe_time.specs.Order.{DelayIsPassedOn, DelayOfCompletion, Dela
 ghost use Rattle.pipe_time.specs.Order.{ShiftMovesTimes, ShiftMovesCompletion};
 ghost use Rattle.pipe_time.specs.Floor.{RaisingChangesNothing};
 ghost use Rattle.pipe_time.specs.Growth.{TimesGrowLittle, SlotsGrowLittle};
+ghost use Rattle.pipe_time.specs.Rebase.{RebasedIsNoFaster, RebasedCompletesNoEarlier, RebasedIsExact, RebasedCompletionIsExact};
+ghost use Rattle.pipe_time.specs.Rebase.{RebasedPlusCostCovers, BaseIsMonotone, CostIsMonotone, CoverSurvives};
 
 /// A vector is all that times depend on: continuing from the window on a past gives what continuing from the past
 /// gives, and stepping through a list of instructions from the zero vector gives the six times of the recurrence.
@@ -67,4 +69,22 @@ pub fn a_shift_moves_all_times()
 /// No time of a run is earlier than its first fetch, so a slot below that fetch may be raised up to it.
 pub fn raising_to_the_next_fetch_changes_nothing()
     ensures { RaisingChangesNothing }
+{}
+
+/// From a vector no time is later than its cost and the time from the rebased vector, and where the cost is the base
+/// every time is that sum.
+pub fn rebase_keeps_times()
+    ensures times { RebasedIsNoFaster }
+    ensures completion { RebasedCompletesNoEarlier }
+    ensures exact { RebasedIsExact }
+    ensures exact_completion { RebasedCompletionIsExact }
+{}
+
+/// A vector that covers another has at least its base and its cost, and once it is rebased it still covers the other when
+/// the cost is added.
+pub fn covering_survives_a_rebase()
+    ensures slots { RebasedPlusCostCovers }
+    ensures base { BaseIsMonotone }
+    ensures cost { CostIsMonotone }
+    ensures covers { CoverSurvives }
 {}

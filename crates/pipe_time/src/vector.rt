@@ -10,7 +10,7 @@ use arm_code::Insn;
 /// 13 is the end of the last instruction if it jumped, else 0; 16, 17 and 18 are the times at which the ALU, the
 /// multiplier and the memory unit are free; 19 to 33 are the ends of the last writers of r0 to r14, and 34 that of the
 /// flags. Slots that the machine's width or queue does not reach are 0.
-#[derive(Clone, Copy, Debug, PartialEq, Eq)]
+#[derive(Clone, Copy, Debug, PartialEq, Eq, Hash)]
 pub struct Vector {
     pub slots: [u64; 35],
 }

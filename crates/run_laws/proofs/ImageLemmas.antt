@@ -17,38 +17,12 @@ use Rattle.wx_base.specs.Monitor.{Rules}
 use Rattle.wx_base.specs.Run.{IsStart, Start, Run, Executed, run_of}
 use Rattle.wx_base.specs.State.{State, Went, Next, Ended, Stopped, pc}
 use Rattle.wx_base.specs.Step.{current_word, executed, step}
+use Rattle.run_laws.specs.CodeBytes.{code_has_byte}
 use Rattle.run_laws.specs.Ranges.{IsInRange, HasCode, RunsStayInRange, RunsKeepCode, CodeIsTheImages, ExecutedWordsAreTheImages}
 use Rattle.run_laws.proofs.CodeLemmas.{steps_keep_code}
 use Rattle.run_laws.proofs.KeptLemmas.{steps_stay_in_range}
 use Rattle.run_laws.proofs.RunLemmas.{IsKept, each_run}
 use Rattle.run_laws.proofs.StepLemmas.{goes}
-
--- ---- the image's bytes
-
--- a byte that the image has at an address
-record HasByte (image : Image) (address : ℕ) : Type 0 where
-  byte : ℕ
-  is : byte_of image address ≡ Some byte
-
-segment_found : (address : ℕ) (s : Segment) (rest : Option Segment) (b : Bool) → spans address s ≡ b → (b ≡ true) ⊎ ((t : Segment) × (rest ≡ Some t)) → (t : Segment) × (cond b (Some s) rest ≡ Some t)
-segment_found address s rest true e h = (s, refl)
-segment_found address s rest false e (inl h) = absurd (false≢true h)
-segment_found address s rest false e (inr h) = h
-
-code_found : (address : ℕ) (segments : List Segment) → list_any (λ segment. segment.code && spans address segment) segments ≡ true
-    → (t : Segment) × (find (λ segment. spans address segment) segments ≡ Some t)
-code_found address [] e = absurd (false≢true e)
-code_found address (s ∷ segments) e =
-    segment_found address s (find (λ segment. spans address segment) segments) (spans address s) refl
-    (elim (or_cases (s.code && spans address s) (list_any (λ segment. segment.code && spans address segment) segments) e) [
-      | inl here ↦ inl (and_parts s.code (spans address s) here).1
-      | inr there ↦ inr (code_found address segments there)
-    ])
-
-code_has_byte : (image : Image) (address : ℕ) → has_code image address ≡ true → HasByte image address
-code_has_byte image address e =
-    let found = code_found address image.segments e in
-    record { byte = byte_in found.0 address; is = ap (option_map (λ segment. byte_in segment address)) found.1 }
 
 -- ---- the word at pc
 

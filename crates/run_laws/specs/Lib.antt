@@ -5,3 +5,4 @@ pub mod Chains
 pub mod Reached
 pub mod Moving
 pub mod Stepping
+pub mod CodeBytes

@@ -6,7 +6,7 @@ ghost use Rattle.wx_base.specs.State.{pc};
 ghost use Rattle.arm_step.specs.Cpu.{registers_of};
 ghost use Rattle.flow_graph.specs.Program.{rules_of, IsProgram};
 ghost use Rattle.run_machine.specs.declared.report.End.TheVariants as ended;
-ghost use Rattle.run_machine.specs.Judging.{Ordered, most_steps};
+ghost use Rattle.run_machine.specs.Judging.{most_steps};
 ghost use Rattle.run_machine.specs.Report.{report_of};
 ghost use Rattle.start_file.specs.StartState.{start_of};
 
@@ -16,45 +16,6 @@ use flow_graph::Program;
 use start_file::Start;
 use std::alloc::Global;
 use wx_base::{Facts, Image, Machine, NoMemory};
-
-/// The run from a start of at most `n` instructions, and what it came to; moves are judged by functions in order.
-pub(crate) fn follow(
-    alloc: Global,
-    start: Start,
-    image: &Image,
-    facts: &Facts,
-    program: &Program,
-    machine: &Machine,
-    n: u64,
-) -> Result<Report, NoMemory>
-    requires few { n ≤ most_steps }
-    requires machine { IsMachine machine.now }
-    requires facts { FactsAscend facts.now }
-    requires ordered { Ordered program.now.functions }
-    requires shape { start.cache.shape ≡ machine.now.shape }
-    ensures report { IfOk result
-        (λ report. report ≡ report_of
-        (run_of machine.now image.now (rules_of facts.now program.now) (registers_of start.cpu.regs pc)
-        (start_of image.now start) n)) }
-    // Only a run of `n` instructions is cut by the limit.
-    ensures limit { IfOk result (λ report. report.end ≡ ended.Limit → report.steps ≡ n) }
-{
-    let mut walk = Walk::new(alloc, start, program)?;
-    for executed in 0..n {
-        if let Some(end) = walk.advance(alloc, image, facts, program, machine)? {
-            return Ok(Report {
-                time: walk.clock.time,
-                steps: walk.clock.steps,
-                end,
-            });
-        }
-    }
-    Ok(Report {
-        time: walk.clock.time,
-        steps: walk.clock.steps,
-        end: End::Limit,
-    })
-}
 
 /// The run from a start, until it ends, stops, breaks a rule that the facts make or has `n` instructions, and what it
 /// came to. Its moves are judged by the program, which is that of the image and the facts from the start's pc.
@@ -87,5 +48,19 @@ pub fn run(
     // Only a run of `n` instructions is cut by the limit.
     ensures limit { IfOk result (λ report. report.end ≡ ended.Limit → report.steps ≡ n) }
 {
-    follow(alloc, start, image, facts, program, machine, n)
+    let mut walk = Walk::new(alloc, start, program)?;
+    for executed in 0..n {
+        if let Some(end) = walk.advance(alloc, image, facts, program, machine)? {
+            return Ok(Report {
+                time: walk.clock.time,
+                steps: walk.clock.steps,
+                end,
+            });
+        }
+    }
+    Ok(Report {
+        time: walk.clock.time,
+        steps: walk.clock.steps,
+        end: End::Limit,
+    })
 }

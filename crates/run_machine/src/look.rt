@@ -1,15 +1,12 @@
 //! What the machine does with the instruction at pc.
 
-ghost use Rattle.std.specs.Prelude.{◌≡◌, IfOk};
-ghost use Rattle.wx_base.specs.State.{word_in};
-ghost use Rattle.arm_step.specs.Cpu.{held};
+ghost use Rattle.std.specs.Prelude.{IfOk};
 ghost use Rattle.run_machine.specs.Look.{Looks};
 
 use arm_code::{Insn, decode};
-use arm_step::{Cpu, StepEnd, step};
+use arm_step::{Cpu, StepEnd, step, word_at};
 use std::alloc::Global;
 use wx_base::{Image, Machine, NoMemory, Why};
-use wx_mem::Memory;
 
 /// What a look at the instruction at pc came to.
 #[derive(Clone, Copy, Debug, PartialEq, Eq)]
@@ -20,31 +17,6 @@ pub(crate) enum Looked {
     Ended { insn: Insn },
     /// Nothing was executed.
     Stopped { why: Why },
-}
-
-/// The byte at an address: the last that was written there, else the image's, else the memory's fill.
-fn byte_at(memory: &Memory, image: &Image, addr: u32) -> u8
-    ensures { result ≡ held image.now memory.now addr }
-{
-    if memory.written(addr) {
-        return memory.read(addr);
-    }
-    match image.byte_at(addr) {
-        Some(byte) => byte,
-        None => memory.read(addr),
-    }
-}
-
-/// The word at an address, the lowest byte first. Addresses are modulo 2^32.
-fn word_at(memory: &Memory, image: &Image, addr: u32) -> u32
-    ensures { result ≡ word_in (held image.now memory.now) addr }
-{
-    u32::from_le_bytes([
-        byte_at(memory, image, addr),
-        byte_at(memory, image, addr.wrapping_add(1)),
-        byte_at(memory, image, addr.wrapping_add(2)),
-        byte_at(memory, image, addr.wrapping_add(3)),
-    ])
 }
 
 /// One step of the machine, with the instruction that was executed.

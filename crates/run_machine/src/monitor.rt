@@ -3,7 +3,7 @@
 ghost use Rattle.std.specs.Prelude.{◌≡◌, ◌∷◌, List, map, not, IfOk, OnOk, unwrap_or, false, ◌&&◌};
 ghost use Rattle.flow_graph.specs.declared.program.Function.{Function};
 ghost use Rattle.wx_base.specs.Facts.{FactsAscend, TargetsAscend};
-ghost use Rattle.wx_base.specs.Monitor.{first_watch, called, is_outermost, moved_within, returned, jumped, is_target, is_call};
+ghost use Rattle.wx_base.specs.Monitor.{first_watch, called, is_outermost, moved_within, returned, jumped, is_target};
 ghost use Rattle.flow_graph.specs.Program.{rules_of, judged_function};
 ghost use Rattle.run_machine.specs.Judging.{AreFew, Ordered, frame_of, callers_of, frames_of, totals_of, watch_of, IsMonitor, decided, verdict, leaves_by, executed_in};
 
@@ -11,6 +11,7 @@ use crate::came::Came;
 use crate::frame::Frame;
 use crate::search::is_target;
 use crate::totals::Totals;
+use flow_block::is_call;
 use flow_graph::Program;
 use std::alloc::Global;
 use std::mem;
@@ -32,13 +33,6 @@ fn strays(bound: bool, facts: &[TargetFact], from: u32, to: u32) -> bool
     ensures { result ≡ (bound && not (is_target facts.now from to)) }
 {
     bound && !is_target(facts, from, to)
-}
-
-/// Whether an instruction is a call.
-fn is_call(flow: FlowKind) -> bool
-    ensures { result ≡ is_call flow }
-{
-    flow.call.is_some() || flow.call_any
 }
 
 impl Monitor {

@@ -1,4 +1,4 @@
-//! Prints the ways of instructions, the programs of images and the loops of graphs that the lines of files name, each
+//! Prints the ways of instructions, the programs of images with their unfoldings, and the loops of graphs that the lines of files name, each
 //! behind its line.
 #![tactic(auto)]
 
@@ -6,44 +6,38 @@ mod graphs;
 mod images;
 mod parts;
 mod programs;
+mod unfoldings;
 
 use anyhow::{Result, bail};
-use std::alloc::Global;
+use case_lines::{Cases, print_files};
 use std::rt::Files;
-use std::{env, fs};
 
-/// The command line names the files.
-fn main(rt: HostRuntime) -> Result<()> {
-    for name in env::args(&rt)?.skip(1) {
-        print_file(&rt, name.as_str())?;
-    }
-    Ok(())
-}
+/// The cases of this program.
+struct FlowCases;
 
-/// Prints a file, with the outcome of each case behind its line. Lines that begin with `#` are remarks.
-fn print_file(rt: &(impl Files + Print + AllocGlobal), name: &str) -> Result<()> {
-    let text = fs::read_to_string(rt, name)?;
-    for line in text.as_str().lines() {
-        if line.is_empty() || line.starts_with('#') {
-            println!(rt; "{line}")?;
-        } else {
-            let mut out = String::new(rt.alloc());
-            push_outcome(rt.alloc(), &mut out, line)?;
-            println!(rt; "{line} ->{out}")?;
+/// A case begins with its kind.
+impl Cases for FlowCases {
+    fn push_outcome<R: Files + AllocGlobal>(
+        &self,
+        rt: &R,
+        out: &mut String,
+        line: &str,
+    ) -> Result<()> {
+        let alloc = rt.alloc();
+        let (kind, case) = parts::pair(line, " ")?;
+        match kind {
+            "ways" => programs::push_ways(alloc, out, case),
+            "program" => programs::push_program(alloc, out, case),
+            "unfold" => unfoldings::push_unfolding(alloc, out, case),
+            "nodes" => unfoldings::push_node_count(alloc, out, case),
+            "count" => programs::push_counts(alloc, out, case),
+            "loops" => graphs::push_loops(alloc, out, case),
+            "reach" => graphs::push_reached(alloc, out, case),
+            _ => bail!("no kind of case"),
         }
     }
-    Ok(())
 }
 
-/// Appends the outcome of a case, which begins with its kind.
-fn push_outcome(alloc: Global, out: &mut String, line: &str) -> Result<()> {
-    let (kind, case) = parts::pair(line, " ")?;
-    match kind {
-        "ways" => programs::push_ways(alloc, out, case),
-        "program" => programs::push_program(alloc, out, case),
-        "count" => programs::push_counts(alloc, out, case),
-        "loops" => graphs::push_loops(alloc, out, case),
-        "reach" => graphs::push_reached(alloc, out, case),
-        _ => bail!("no kind of case"),
-    }
+fn main(rt: HostRuntime) -> Result<()> {
+    print_files(&rt, &FlowCases)
 }

@@ -2,6 +2,7 @@
 
 ghost use Rattle.std.specs.Prelude.{IfOk};
 ghost use Rattle.wx_base.specs.Facts.{FactsAscend};
+ghost use Rattle.flow_ctx.specs.Laws.{IsBuilt};
 
 use crate::images::image_of;
 use crate::parts::{pair, word};
@@ -31,7 +32,9 @@ pub fn push_ways(alloc: Global, out: &mut String, case: &str) -> Result<()> {
 }
 
 /// The program of a case: where runs start, the segments, and the facts.
-fn program_of(alloc: Global, case: &str) -> Result<Result<Program, FlowError>> {
+pub fn program_of(alloc: Global, case: &str) -> Result<Result<Program, FlowError>>
+    ensures { IfOk result (λ outcome. IfOk outcome IsBuilt) }
+{
     let (start, parts) = pair(case, " | ")?;
     let (segments, facts) = pair(parts, " | ")?;
     let image = image_of(alloc, segments)?;
@@ -56,7 +59,8 @@ pub fn push_counts(alloc: Global, out: &mut String, case: &str) -> Result<()> {
     }
 }
 
-fn push_refusal(out: &mut String, refusal: FlowError) -> Result<()> {
+/// Appends why there is no program.
+pub fn push_refusal(out: &mut String, refusal: FlowError) -> Result<()> {
     write!(out, " {refusal}")?;
     Ok(())
 }

@@ -3,16 +3,21 @@
 #![tactic(auto)]
 
 use anyhow::{Context, Result, bail};
+use case_lines::{Cases, print_files};
 use std::alloc::Global;
-use std::fmt::Display;
+use std::cell::Cell;
+use std::fmt::{Display, Write};
+use std::io;
 use std::rt::Files;
-use std::{env, fs, io};
 use wx_host::{HostSink, HostStore, Sink, Store};
 use wx_text::read_decimal;
 
-/// An output that takes at most so many bytes of a piece.
+/// An output that takes at most so many bytes of a piece, once so many signals have come.
 #[derive(Drop)]
-struct Narrow(usize);
+struct Narrow {
+    most: usize,
+    signals: Cell<usize>,
+}
 
 impl Print for Narrow {
     fn print<D: Display + Drop>(&self, _value: D) -> io::Result<()> {
@@ -28,66 +33,72 @@ impl Print for Narrow {
     }
 
     fn write_some(&self, bytes: &[u8]) -> io::Result<usize> {
-        Ok(bytes.len().min(self.0))
-    }
-}
-
-/// The command line names the files of steps.
-fn main(rt: HostRuntime) -> Result<()> {
-    for name in env::args(&rt)?.skip(1) {
-        print_file(&rt, name.as_str())?;
-    }
-    Ok(())
-}
-
-/// Prints a file, with what each step came to behind its line. Lines that begin with `#` are remarks.
-fn print_file(rt: &HostRuntime, name: &str) -> Result<()> {
-    let text = fs::read_to_string(rt, name)?;
-    for line in text.as_str().lines() {
-        if line.is_empty() || line.starts_with('#') {
-            println!(rt; "{line}")?;
-        } else {
-            let outcome = outcome_of(rt, line)?;
-            println!(rt; "{line} -> {outcome}")?;
+        match self.signals.get() {
+            0 => Ok(bytes.len().min(self.most)),
+            left => {
+                self.signals.set(left - 1);
+                Err(io::Error::from(io::ErrorKind::Interrupted))
+            }
         }
     }
-    Ok(())
 }
 
-/// What a step comes to: `read NAME`, `write NAME COUNT` or `put COUNT MOST`.
-fn outcome_of(rt: &HostRuntime, step: &str) -> Result<String> {
-    let (verb, rest) = step.split_once(' ').context("a step has a verb")?;
-    match verb {
-        "read" => read(rt, rest),
-        "write" => write(rt, rest),
-        "put" => put(rt.alloc(), rest),
-        _ => bail!("no such step"),
+/// The cases of this program.
+struct HostCases;
+
+/// A case is a step: `read NAME`, `write NAME COUNT` or `put COUNT MOST SIGNALS`.
+impl Cases for HostCases {
+    fn push_outcome<R: Files + AllocGlobal>(
+        &self,
+        rt: &R,
+        out: &mut String,
+        line: &str,
+    ) -> Result<()> {
+        let (verb, rest) = line.split_once(' ').context("a step has a verb")?;
+        match verb {
+            "read" => read(rt, out, rest),
+            "write" => write(rt, out, rest),
+            "put" => put(rt.alloc(), out, rest),
+            _ => bail!("no such step"),
+        }
     }
+}
+
+fn main(rt: HostRuntime) -> Result<()> {
+    print_files(&rt, &HostCases)
 }
 
 /// The answer to a read, how many bytes were handed over, and whether each is the letter a.
-fn read(rt: &HostRuntime, name: &str) -> Result<String> {
+fn read(rt: &(impl Files + AllocGlobal), out: &mut String, name: &str) -> Result<()> {
     let mut bytes = Vec::new(rt.alloc());
     let answer = HostStore::new(rt).read(name, &mut bytes);
     let count = bytes.len();
     let same = bytes.iter().all(|byte| *byte == b'a');
-    Ok(format!(in rt.alloc(); "{answer:?} {count} {same}")?)
+    write!(out, " {answer:?} {count} {same}")?;
+    Ok(())
 }
 
 /// The answer to a write of so many letters a.
-fn write(rt: &HostRuntime, rest: &str) -> Result<String> {
+fn write(rt: &(impl Files + AllocGlobal), out: &mut String, rest: &str) -> Result<()> {
     let (name, count) = rest.split_once(' ').context("a write has a count")?;
     let bytes = vec![in rt.alloc(); b'a'; number(count)?]?;
     let answer = HostStore::new(rt).write(name, bytes.as_slice());
-    Ok(format!(in rt.alloc(); "{answer:?}")?)
+    write!(out, " {answer:?}")?;
+    Ok(())
 }
 
-/// The answer to a put of so many letters a to an output that takes at most so many.
-fn put(alloc: Global, rest: &str) -> Result<String> {
-    let (count, most) = rest.split_once(' ').context("a put has two counts")?;
+/// The answer to a put of so many letters a to an output that takes at most so many after so many signals.
+fn put(alloc: Global, out: &mut String, rest: &str) -> Result<()> {
+    let (count, rest) = rest.split_once(' ').context("a put has three counts")?;
+    let (most, signals) = rest.split_once(' ').context("a put has three counts")?;
     let bytes = vec![in alloc; b'a'; number(count)?]?;
-    let answer = HostSink::new(Narrow(number(most)?)).put(bytes.as_slice());
-    Ok(format!(in alloc; "{answer:?}")?)
+    let output = Narrow {
+        most: number(most)?,
+        signals: Cell::new(number(signals)?),
+    };
+    let answer = HostSink::new(output).put(bytes.as_slice());
+    write!(out, " {answer:?}")?;
+    Ok(())
 }
 
 /// The number that digits write.

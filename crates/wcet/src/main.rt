@@ -5,22 +5,16 @@
 use std::process::ExitCode;
 use std::{env, io};
 use wcet_cli::wcet;
+use wcet_front::say_memory;
 use wx_base::{HostSink, HostStore};
-
-/// The status where memory is wanting for the words themselves.
-const STARVED: u8 = 9;
-
-/// The status where that cannot be said.
-const UNWRITTEN: u8 = 3;
 
 fn main(rt: HostRuntime) -> ExitCode {
     let status = match words(&rt) {
         Ok(words) => run(&rt, words.as_slice()),
-        Err(error) if error.kind() == io::ErrorKind::OutOfMemory => match println!(rt; "memory") {
-            Ok(()) => STARVED,
-            Err(_) => UNWRITTEN,
-        },
-        // A word that is no text fits no form.
+        Err(error) if error.kind() == io::ErrorKind::OutOfMemory => say_memory(&mut HostSink::new(
+            &rt,
+        )),
+        // A word that is no text fits no form, and neither do no words.
         Err(_) => run(&rt, &[]),
     };
     ExitCode::from(status)

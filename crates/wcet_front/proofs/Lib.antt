@@ -3,4 +3,3 @@ pub mod NoFacts
 pub mod Unread
 pub mod OneStart
 pub mod Putting
-pub mod OneFlowRefusal

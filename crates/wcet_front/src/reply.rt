@@ -23,7 +23,7 @@ use start_file::StartError;
 use std::alloc::Global;
 use wx_base::{NoMemory, Text};
 
-/// What the program answers to its words: the bound, or why there is none.
+/// What the program answers to its words: a bound, the report of a run, or why there is none.
 #[derive(Debug, Drop)]
 pub enum Reply {
     /// No run takes more than these cycles.

@@ -58,6 +58,10 @@ pub record IsTable (nodes : List Node) : Type 0 where
   pub each : (p : ℕ) (n : Node) → slice_get nodes p ≡ Some n → IsNodeAt nodes p n
   pub once : (p q : ℕ) (n : Node) → slice_get nodes p ≡ Some n → slice_get nodes q ≡ Some n → p ≡ q
 
+-- the node stands at no place
+pub record Lacks (nodes : List Node) (n : Node) : Type 0 where
+  pub none : (p : ℕ) → slice_get nodes p ≡ Some n → ⊥
+
 -- the place holds the node, which was added last exactly where the old table lacks it
 pub record Holds (old new : List Node) (n : Node) (p : ℕ) : Type 0 where
   pub at : slice_get new p ≡ Some n

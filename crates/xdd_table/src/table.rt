@@ -2,7 +2,7 @@ ghost use Rattle.std.specs.Prelude.{◌≡◌, ◌≢◌, ◌<◌, ◌↔◌, �
 ghost use Rattle.std.specs.Prelude.{OnErr, if◌then◌else◌};
 ghost use Rattle.xdd_table.specs.declared.node.Node.{Node as NodeOf};
 ghost use Rattle.xdd_table.specs.Diagram.{Combination, with_event, AgreesWith, time, BeginsAfter, IsNodeAt, IsTable};
-ghost use Rattle.xdd_table.specs.Diagram.{Keeps, Holds, time_of_node, EventsLess};
+ghost use Rattle.xdd_table.specs.Diagram.{Keeps, Holds, Lacks, time_of_node, EventsLess};
 
 use crate::node::{Dd, Node};
 use indexmap::IndexSet;
@@ -55,6 +55,8 @@ impl Table {
         ensures after { IfOk result (λ d. (e : ℕ) → BeginsAfter self.new e d.place) }
         ensures events { IfOk result (λ d. (bound : ℕ) → EventsLess self.new d.place bound) }
         ensures kept { Keeps self.old self.new }
+        // Memory is wanted for a new node alone.
+        ensures absent { OnErr result (Lacks self.old (Node.Leaf t)) }
         ensures unchanged { OnErr result (self.new ≡ self.old) }
         ensures table { IsTable self.new }
     {
@@ -79,6 +81,8 @@ impl Table {
         ensures events { IfOk result (λ d. (bound : ℕ) → event < bound → EventsLess self.old hit.place bound
             → EventsLess self.old miss.place bound → EventsLess self.new d.place bound) }
         ensures kept { Keeps self.old self.new }
+        // Memory is wanted for a new node alone.
+        ensures absent { OnErr result (hit.place ≢ miss.place × Lacks self.old (Node.Branch event hit miss)) }
         ensures unchanged { OnErr result (self.new ≡ self.old) }
         ensures table { IsTable self.new }
     {
@@ -153,6 +157,7 @@ fn store(nodes: &mut IndexSet<Node>, node: Node) -> Result<Dd, NoMemory>
         → time nodes.new.keys f d.place ≡ time_of_node nodes.old.keys f node) }
     ensures within { IfOk result (λ d. d.place < length nodes.new.keys) }
     ensures kept { Keeps nodes.old.keys nodes.new.keys }
+    ensures absent { OnErr result (Lacks nodes.old.keys node) }
     ensures unchanged { OnErr result (nodes.new.keys ≡ nodes.old.keys) }
     ensures table { IsTable nodes.new.keys }
 {

@@ -1,4 +1,5 @@
-use Rattle.std.proofs.Common.{List, ◌^◌, length, sym, subst}
+use Rattle.std.specs.Global.{Vec}
+use Rattle.std.proofs.Common.{ℕ, List, ◌^◌, length, sym, subst}
 use Rattle.std.specs.Prelude.{ℤ, pos, ◌≤ℤ◌}
 use Rattle.std.specs.List.{All}
 use Rattle.path_problem.specs.declared.net.Link.{Link}
@@ -28,8 +29,8 @@ numbers-requires c =
 pub returns-clause-ok : goal.returns-clause-ok
 returns-clause-ok c =
     let s = settled_same c.as_slice.ensures.value c.as_slice-2.ensures c.in-Settled.is c.in_ok-values.ensures in
-    ok_more (AreNumbers c.as_slice-in-Settled.result.now) (ArePotentials c.args.graph.now c.args.prices.now) c.numbers.result
-    (λ p n. are_potentials c.args.graph.now c.args.prices.now c.in_ok-links.links.items c.in_ok-links.ensures c.requires.graph c.in-Settled.values.items s p (subst (λ (v : List ℤ). AreNumbers v p) c.as_slice-in-Settled.ensures.value n))
+    ok_more (λ (p : Vec ℕ). AreNumbers c.as_slice-in-Settled.result.now p.items) (λ (p : Vec ℕ). ArePotentials c.args.graph.now c.args.prices.now p.items) c.numbers.result
+    (λ p n. are_potentials c.args.graph.now c.args.prices.now c.in_ok-links.links.items c.in_ok-links.ensures c.requires.graph c.in-Settled.values.items s p.items (subst (λ (v : List ℤ). AreNumbers v p.items) c.as_slice-in-Settled.ensures.value n))
     c.numbers.ensures.ok
 
 pub returns-clause-large : goal.returns-clause-large

@@ -1,9 +1,6 @@
-use Rattle.pipe_time.proofs.Slots.{far_fe, far_d}
+use Rattle.std.proofs.Common.{◌^◌, ◌≤◌, arith}
+use Rattle.pipe_time.proofs.Bounds.{base_within}
 use Rattle.pipe_time.proofs.equations.fetch.Goals as goal
 
-pub returns-clause-value : goal.returns-clause-value
-returns-clause-value c =
-    let m = c.args.m.now in
-    let fe = far_fe c.args.slots.now m.width c.requires.machine.width in
-    let d = far_d c.args.slots.now m.queue c.requires.machine.queue in
-    rw (← fe, ← d) (cc)
+pub returns-clause-small : goal.returns-clause-small
+returns-clause-small c = rw c.base.ensures (base_within c.args.m.now (2 ^ 62) c.args.slots.now c.requires.machine c.requires.slots)

@@ -1,4 +1,5 @@
-use Rattle.xdd_table.proofs.StoreLemmas.{node_eq, Takes, takes, takes_holds, takes_table, takes_keeps, takes_time, takes_within}
+use Rattle.std.proofs.Common.{Result, Ok, Err, OnErr}
+use Rattle.xdd_table.proofs.StoreLemmas.{node_eq, absent, Takes, takes, takes_holds, takes_table, takes_keeps, takes_time, takes_within}
 use Rattle.xdd_table.proofs.table.store.Goals as goal
 use Rattle.xdd_table.proofs.table.store.Goals.{In_ok-place}
 
@@ -21,3 +22,12 @@ returns-clause-times c = λ f. takes_time c.args.nodes.now.keys c.args.node c.re
 
 pub returns-clause-within : goal.returns-clause-within
 returns-clause-within c = takes_within c.args.nodes.now.keys c.args.node c.requires.table c.requires.shape c.insert_full.new.self.keys c.in_ok-place.place (taken c)
+
+on_error : {A E : Type 0} (r : Result A E) (P : Type 0) → P → OnErr r P
+on_error (Ok a) P p = tt
+on_error (Err e) P p = p
+
+pub returns-in_err-place-clause-absent : goal.returns-in_err-place-clause-absent
+unfolding node_eq
+returns-in_err-place-clause-absent c =
+    on_error c.from_residual.result _ (record { none = absent c.args.node c.args.nodes.now.keys c.in_err-place.ensures.absent })

@@ -1,0 +1,4 @@
+pub mod Flows
+pub mod Solutions
+pub mod Classes
+pub mod Laws

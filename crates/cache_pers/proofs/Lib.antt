@@ -1,0 +1,4 @@
+mod Distinct
+mod RowLemmas
+mod States
+mod Stay

@@ -1,0 +1,4 @@
+mod SoFar
+pub mod PairLemmas
+mod NamedLemmas
+pub mod FaultLemmas

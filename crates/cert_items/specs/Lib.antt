@@ -1,0 +1,5 @@
+pub mod Said
+pub mod Order
+pub mod Counts
+pub mod Faults
+pub mod Judged

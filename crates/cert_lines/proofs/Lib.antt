@@ -1,0 +1,6 @@
+mod WordLemmas
+mod Runs
+mod Sound
+mod Endings
+mod Fronts
+mod ReaderLemmas

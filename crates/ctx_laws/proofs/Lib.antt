@@ -1,0 +1,15 @@
+mod Lists
+mod Programs
+mod Nodes
+mod Frames
+mod Flows
+mod Moves
+mod Members
+mod Counters
+mod Totals
+mod Bounds
+mod Executed
+mod Steps
+mod Runs
+mod Walks
+mod StayLemmas

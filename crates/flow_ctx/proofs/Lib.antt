@@ -1,0 +1,14 @@
+mod Keys
+mod SearchLemmas
+mod TargetLemmas
+mod OrderLemmas
+mod FoundLemmas
+mod PlaceLemmas
+mod NumberLemmas
+mod EdgeLemmas
+mod ChosenLemmas
+mod MemberLemmas
+mod LoopLemmas
+mod BuiltLemmas
+mod CountLemmas
+mod UniqueLemmas

@@ -1,0 +1,9 @@
+pub mod Order
+pub mod Nodes
+pub mod Unfolding
+pub mod Stays
+pub mod Laws
+pub mod Targets
+pub mod Found
+pub mod Edges
+pub mod Chosen

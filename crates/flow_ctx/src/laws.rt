@@ -1,0 +1,7 @@
+//! Laws of the definitions: nothing is computed here.
+ghost use Rattle.flow_ctx.specs.Laws.{UnfoldingIsOne};
+
+/// A program that was built has at most one unfolding.
+pub fn unfoldings_are_one()
+    ensures { UnfoldingIsOne }
+{}
