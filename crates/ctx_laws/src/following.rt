@@ -10,8 +10,9 @@ use run_laws::{
 };
 
 /// Every run of a program, cut anywhere, is in the block of some node of the unfolding: its instructions are those of
-/// the blocks along a walk over the edges. At a member of a loop it is in a stay of the loop, the counters of the
-/// frames are the numbers of back edges in the stays, the totals those in the whole run, all within the bounds.
+/// the blocks along a walk over the edges. At a member of a loop it is in a stay of the loop, and each stay is within
+/// the loop's bound. At the walk's end the counters of the frames are the numbers of back edges of the stays that
+/// last, and the totals those of the whole walk.
 pub fn runs_follow_unfoldings()
     ensures { RunsFollowUnfoldings }
 {

@@ -1,0 +1,11 @@
+pub mod Plans
+pub mod Steps
+pub mod Rebuilding
+pub mod Gathers
+pub mod Arrivals
+pub mod Results
+pub mod Walking
+pub mod Gathering
+pub mod Staying
+pub mod ValidLemmas
+pub mod BlockLemmas

@@ -1,0 +1,39 @@
+-- What blocks of a function are, and what kept answers last through. This project's own.
+use Rattle.std.specs.Prelude.{◌≡◌, ℕ, List, [], slice_get, Some}
+use Rattle.wx_base.specs.declared.facts.Facts.{Facts}
+use Rattle.wx_base.specs.declared.image.Image.{Image}
+use Rattle.wx_base.specs.declared.machine.Machine.{Machine}
+use Rattle.xdd_table.specs.declared.node.Node.{Node}
+use Rattle.xdd_table.specs.Diagram.{Keeps}
+use Rattle.flow_block.specs.declared.block.Block.{Block}
+use Rattle.flow_block.specs.Blocks.{IsBlock}
+use Rattle.pipe_time.specs.declared.vector.Vector.{Vector}
+use Rattle.pipe_block.specs.declared.diagrams.BlockVector.{BlockVector}
+use Rattle.pipe_block.specs.Events.{IsTimed}
+use Rattle.pipe_block.specs.Times.{AreTimes}
+use Rattle.pipe_block.specs.Kept.{AreRight}
+
+-- each block of a function can be timed
+abbrev pub BlocksAreTimed : Type 0
+BlocksAreTimed =
+    (image : Image) (facts : Facts) (machine : Machine) (entry : ℕ) (block : Block) →
+    IsBlock image facts machine entry block → IsTimed block
+
+-- earlier places keep their vectors
+pub record KeepsVectors (old new : List Vector) : Type 0 where
+  pub kept : (place : ℕ) (v : Vector) → slice_get old place ≡ Some v → slice_get new place ≡ Some v
+
+-- the times of a block stay as the table grows
+abbrev pub TimesStay : Type 0
+TimesStay =
+    (old new : List Node) (m : Machine) (from : List ℕ) (block : Block) (v : BlockVector) → Keeps old new → AreTimes old m from block v → AreTimes new m from block v
+
+-- right answers stay right as table and pool grow
+abbrev pub RightAnswersStay : Type 0
+RightAnswersStay =
+    (old new : List Node) (pool more : List Vector) (m : Machine) (blocks : ℕ → Block) (entries : List ((ℕ × ℕ) × BlockVector)) →
+    Keeps old new → KeepsVectors pool more → AreRight old pool m blocks entries → AreRight new more m blocks entries
+
+-- no answer is right
+abbrev pub NoAnswerIsRight : Type 0
+NoAnswerIsRight = (nodes : List Node) (pool : List Vector) (m : Machine) (blocks : ℕ → Block) → AreRight nodes pool m blocks []
