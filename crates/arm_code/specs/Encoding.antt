@@ -151,3 +151,7 @@ word_of insn = insn.cond * 2 ^ 28 + op_bits insn.op
 -- no word matches two rows
 abbrev pub RowsAreApart : Type 0
 RowsAreApart = (word : ℕ) (a b : Kind) → matches a word ≡ true → matches b word ≡ true → a ≡ b
+
+-- a word of 32 bits that is an instruction is that instruction's word
+abbrev pub WordsAreSpelled : Type 0
+WordsAreSpelled = (word : ℕ) (insn : Insn) → word < 2 ^ 32 → decoded word ≡ Some insn → word_of insn ≡ word

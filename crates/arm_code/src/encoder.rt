@@ -1,7 +1,7 @@
 //! From instructions to words. The bits are put together in 64, so that fields past their place show as a long number.
 
 ghost use Rattle.std.specs.Prelude.{◌≡◌, ℕ, ◌<◌, ◌≤◌, ◌^◌, ◌+◌, ◌*◌, Some, IsTrue, ◌↔◌};
-ghost use Rattle.arm_code.specs.Encoding.{decoded, word_of, op_bits, operand_bits, offset_bits, half_offset_bits, index_bits, half_kind_bits, shift_bits, register_pair, factor_bits, flag_bit, IsValid};
+ghost use Rattle.arm_code.specs.Encoding.{decoded, word_of, op_bits, operand_bits, offset_bits, half_offset_bits, index_bits, half_kind_bits, shift_bits, register_pair, factor_bits, flag_bit, IsValid, WordsAreSpelled};
 
 use crate::decoder::decode;
 use crate::insn::{HalfKind, HalfOffset, Index, Insn, Offset, Op, Operand};
@@ -266,3 +266,8 @@ pub fn encode(insn: &Insn) -> u32
 {
     insn_bits(insn) as u32
 }
+
+/// A law of the table: a word of 32 bits that is an instruction is that instruction's word.
+pub fn words_are_spelled()
+    ensures { WordsAreSpelled }
+{}

@@ -17,7 +17,7 @@ pub use bits::field;
 pub use codes::{ALWAYS, LR, PC, SP};
 pub use columns::{reads, transfers, unit, writes};
 pub use decoder::{decode, rows_are_apart};
-pub use encoder::{encode, is_valid};
+pub use encoder::{encode, is_valid, words_are_spelled};
 pub use flows::{flow, no_flow, offset_target, offsets_give_targets};
 pub use insn::{HalfKind, HalfOffset, Index, Insn, Offset, Op, Operand};
 pub use settings::{is_compare, is_listed, is_move};

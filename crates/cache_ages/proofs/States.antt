@@ -2,7 +2,7 @@
 use Rattle.std.proofs.Common.{◌≡◌, ℕ, ◌+◌, ◌<◌, ◌≤◌, Bool, true, false, cond, ◌&&◌, List, length, get_or, min, max, replicate, inl, inr, refl, sym, ap, ◌∙◌, arith, eqb, ltb, subst}
 use Rattle.std.proofs.Math.Path.{fun_ext}
 use Rattle.std.proofs.lemmas.Bool.{cases_Bool, le-ltb, true≢false}
-use Rattle.std.proofs.lemmas.List.{get_or_default}
+use Rattle.std.proofs.lemmas.List.{get_or_default, get_or-replicate, length-replicate}
 use Rattle.std.proofs.lemmas.List.Elements.{All-get_or, All-from_get_or, All-same, All-replicate}
 use Rattle.std.specs.Bool.{Decides}
 use Rattle.std.specs.Global.{Vec}
@@ -119,6 +119,14 @@ same_beside x y lines others values e f = λ i. beside (sym e i) (sym f i) value
 pub fresh : (value n : ℕ) (lines values : List ℕ) → values ≡ replicate n value → beside value lines values ≡ (λ line. value)
 fresh value n lines values e = fun_ext λ line.
     beside_each value (λ x. x ≡ value) lines values line refl (All-same (λ x. x ≡ value) values (replicate n value) e (All-replicate (λ x. x ≡ value) n value refl))
+
+-- one value beside each listed line
+pub filled : (outside value n : ℕ) (lines its values : List ℕ) → its ≡ lines → length lines ≡ n → values ≡ replicate n value
+    → (line : ℕ) → is_one_of lines line ≡ true → beside outside its values line ≡ value
+filled outside value n lines its values e l v line h =
+    let long : length (replicate n value) ≡ length lines = length-replicate n value ∙ sym l in
+    rw (e, v) (beside_listed (λ _ x _ _. x ≡ value) outside outside outside lines (replicate n value) (replicate n value) (replicate n value)
+    long long long (λ k lt. get_or-replicate n k value outside (omega arith)) line h)
 
 -- a test of all places decides whether a second state covers a first
 pub must_decided : (ways others : ℕ) (lines its : List ℕ) (first second : List ℕ) (r : Bool) → AreAscending lines

@@ -1,4 +1,4 @@
-ghost use Rattle.std.specs.Prelude.{◌≡◌, IsOk, IfOk, IsTrue};
+ghost use Rattle.std.specs.Prelude.{◌≡◌, ℕ, true, IsOk, IfOk, IsTrue};
 ghost use Rattle.std.specs.Bool.{Decides};
 ghost use Rattle.wx_base.specs.CacheStates.{may_start, may_accessed, may_joined, may_hold, MayCovers};
 ghost use Rattle.wx_base.specs.Facts.{AreAscending};
@@ -42,6 +42,31 @@ impl May {
         let ages = vec![in alloc; 0u8; lines.len()]?;
         let lines = lines.to_vec(alloc)?;
         Ok(May { shape, lines, ages })
+    }
+
+    /// The state where no run comes: no line is there. Whatever else is allowed of these lines, this does not allow more.
+    pub fn unreached(alloc: Global, shape: Shape, lines: &[u32]) -> Result<May, NoMemory>
+        requires shape { IsShape shape }
+        requires ascending { AreAscending lines.now }
+        ensures made { IfOk result (λ may. AreFor may shape lines.now) }
+        ensures absent { IfOk result (λ may. (line : ℕ) → is_one_of lines.now line ≡ true → may_ages may line ≡ shape.ways) }
+    {
+        let ages = vec![in alloc; shape.ways as u8; lines.len()]?;
+        let lines = lines.to_vec(alloc)?;
+        Ok(May { shape, lines, ages })
+    }
+
+    /// The same state once more. Linear in the lines.
+    pub fn duplicate(&self, alloc: Global) -> Result<May, NoMemory>
+        ensures { IfOk result (λ may. may ≡ self.now) }
+    {
+        let lines = Vec::from_slice(alloc, self.lines.as_slice())?;
+        let ages = Vec::from_slice(alloc, self.ages.as_slice())?;
+        Ok(May {
+            shape: self.shape,
+            lines,
+            ages,
+        })
     }
 
     /// The bounds are those of some lines, in range. A law: nothing is looked up.

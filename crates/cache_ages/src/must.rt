@@ -1,4 +1,4 @@
-ghost use Rattle.std.specs.Prelude.{◌≡◌, IsOk, IfOk, IsTrue};
+ghost use Rattle.std.specs.Prelude.{◌≡◌, ℕ, true, IsOk, IfOk, IsTrue};
 ghost use Rattle.std.specs.Bool.{Decides};
 ghost use Rattle.wx_base.specs.CacheStates.{must_start, must_accessed, must_joined, must_hold, MustCovers};
 ghost use Rattle.wx_base.specs.Facts.{AreAscending};
@@ -42,6 +42,31 @@ impl Must {
         let ages = vec![in alloc; shape.ways as u8; lines.len()]?;
         let lines = lines.to_vec(alloc)?;
         Ok(Must { shape, lines, ages })
+    }
+
+    /// The state where no run comes: each line is the youngest. Whatever else is known of these lines, this knows it too.
+    pub fn unreached(alloc: Global, shape: Shape, lines: &[u32]) -> Result<Must, NoMemory>
+        requires shape { IsShape shape }
+        requires ascending { AreAscending lines.now }
+        ensures made { IfOk result (λ must. AreFor must shape lines.now) }
+        ensures youngest { IfOk result (λ must. (line : ℕ) → is_one_of lines.now line ≡ true → must_ages must line ≡ 0) }
+    {
+        let ages = vec![in alloc; 0u8; lines.len()]?;
+        let lines = lines.to_vec(alloc)?;
+        Ok(Must { shape, lines, ages })
+    }
+
+    /// The same state once more. Linear in the lines.
+    pub fn duplicate(&self, alloc: Global) -> Result<Must, NoMemory>
+        ensures { IfOk result (λ must. must ≡ self.now) }
+    {
+        let lines = Vec::from_slice(alloc, self.lines.as_slice())?;
+        let ages = Vec::from_slice(alloc, self.ages.as_slice())?;
+        Ok(Must {
+            shape: self.shape,
+            lines,
+            ages,
+        })
     }
 
     /// The bounds are those of some lines, in range. A law: nothing is looked up.

@@ -1,21 +1,24 @@
 -- Solutions hold along every run.
-use Rattle.std.proofs.Common.{◌≡◌, ℕ, true, false, List, [], ◌∷◌, ◌++◌, take, refl, arith}
+use Rattle.std.proofs.Common.{◌≡◌, ℕ, zero, suc, ◌<◌, true, false, List, [], ◌∷◌, ◌++◌, length, get_or, take, inl, inr, refl, sym, arith, eqb}
+use Rattle.std.proofs.lemmas.Bool.{cases_lt, eq-eqb, or_left, or_right}
+use Rattle.std.proofs.lemmas.List.{get_or_past}
+use Rattle.std.proofs.lemmas.List.Elements.{All-append, All-get_or, All-nil, All-take}
+use Rattle.std.specs.List.{All}
 use Rattle.wx_base.specs.declared.machine.Shape.{Shape}
 use Rattle.wx_base.specs.Machine.{IsShape}
 use Rattle.wx_base.specs.Cache.{Lines, IsCache, accessed, holds_line}
-use Rattle.wx_base.specs.CacheStates.{Ages, must_accessed, MustCovers, MustCoversCache, may_accessed, MayCovers, MayCoversCache, Younger, younger_start, younger_accessed, YoungerCovers}
+use Rattle.wx_base.specs.CacheStates.{Ages, must_accessed, MustCovers, MustCoversCache, may_accessed, MayCovers, MayCoversCache, Younger, younger_start, younger_accessed, YoungerCovers, is_kept}
 use Rattle.cache_lru.specs.Laws.{AccessKeepsCache}
+use Rattle.cache_ages.specs.Bounds.{is_one_of}
 use Rattle.cache_ages.specs.Laws.{MustAccessCovers, MustHoldsLine, MayAccessCovers, MayBarsLine}
-use Rattle.cache_pers.specs.Laws.{CoveringKeeps, YoungerAccessKeepsOrder}
+use Rattle.cache_pers.specs.Laws.{CoveringKeeps, KeptIsHeld, YoungerAccessKeepsOrder}
 use Rattle.cache_pers.specs.Stays.{cache_along, younger_along}
-use Rattle.cache_flow.specs.Flows.{Flow, Part, Comes, Stays, accesses_of}
+use Rattle.cache_flow.specs.declared.flow.Flow.{Flow}
+use Rattle.cache_flow.specs.Flows.{Part, IsFlow, Comes, Stays, accesses_of}
 use Rattle.cache_flow.specs.Flows.Comes.{starts, goes}
 use Rattle.cache_flow.specs.Flows.Stays.{enters, goes as goes_on}
 use Rattle.cache_flow.specs.Solutions.{must_along, may_along, IsMustSolution, IsMaySolution, IsYoungerSolution}
-use Rattle.cache_flow.specs.Classes.{IsClass}
-use Rattle.cache_flow.specs.Classes.Class.{always_hit, always_miss}
-use Rattle.cache_flow.specs.Classes.IsClass.{hits, misses}
-use Rattle.cache_flow.specs.Laws.{MustSolutionsHold, MaySolutionsHold, YoungerSolutionsHold, ClassesHold, KeptInStays}
+use Rattle.cache_flow.specs.Laws.{MustSolutionsHold, MaySolutionsHold, YoungerSolutionsHold, HeldLinesAreThere, BarredLinesAreAbsent, KeptInStays}
 
 -- ---- one list of accesses behind another
 
@@ -108,28 +111,59 @@ may_solutions keeps covers shape flow states node xs cache s c sol there = may_h
 pub younger_solutions : YoungerAccessKeepsOrder → YoungerSolutionsHold
 younger_solutions order shape flow part states node xs sol there = younger_holds_at order shape flow part states sol node xs there
 
-pub classes : AccessKeepsCache → MustAccessCovers → MustHoldsLine → MayAccessCovers → MayBarsLine → ClassesHold
-classes keeps must holds may bars shape flow parts states node place line xs cache s c sol low there = (hit, miss)
-  where
-    part : List ℕ
-    part = take place (accesses_of flow node)
+pub held_lines : AccessKeepsCache → MustAccessCovers → MustHoldsLine → HeldLinesAreThere
+held_lines keeps must holds shape flow states node place line xs cache s c sol there h =
+    let part = take place (accesses_of flow node) in
+    let old = must_holds_at keeps shape flow cache s c must states sol node xs there in
+    let new = must_run keeps shape s must (states node) (cache_along shape cache xs) part (cached keeps shape s cache xs c) old in
+    rw (cache_append shape cache xs part) (holds shape (must_along shape (states node) part) (cache_along shape (cache_along shape cache xs) part) line new h)
 
-    hit : IsClass shape flow parts states node place line always_hit → holds_line shape (cache_along shape cache (xs ++ part)) line ≡ true
-    hit (hits h) =
-        let old = must_holds_at keeps shape flow cache s c must states.must sol node xs there in
-        let new = must_run keeps shape s must (states.must node) (cache_along shape cache xs) part (cached keeps shape s cache xs c) old in
-        rw (cache_append shape cache xs part) (holds shape (must_along shape (states.must node) part) (cache_along shape (cache_along shape cache xs) part) line new h)
+pub barred_lines : AccessKeepsCache → MayAccessCovers → MayBarsLine → BarredLinesAreAbsent
+barred_lines keeps may bars shape flow states node place line xs cache s c sol there h =
+    let part = take place (accesses_of flow node) in
+    let old = may_holds_at keeps shape flow cache s c may states sol node xs there in
+    let new = may_run keeps shape s may (states node) (cache_along shape cache xs) part (cached keeps shape s cache xs c) old in
+    rw (cache_append shape cache xs part) (bars shape (may_along shape (states node) part) (cache_along shape (cache_along shape cache xs) part) line s
+    (cached keeps shape s (cache_along shape cache xs) part (cached keeps shape s cache xs c)) new h)
 
-    miss : IsClass shape flow parts states node place line always_miss → holds_line shape (cache_along shape cache (xs ++ part)) line ≡ false
-    miss (misses known h) =
-        let old = may_holds_at keeps shape flow cache s c may states.may low node xs there in
-        let new = may_run keeps shape s may (states.may node) (cache_along shape cache xs) part (cached keeps shape s cache xs c) old in
-        rw (cache_append shape cache xs part) (bars shape (may_along shape (states.may node) part) (cache_along shape (cache_along shape cache xs) part) line s
-        (cached keeps shape s (cache_along shape cache xs) part (cached keeps shape s cache xs c)) new h)
+-- ---- stays
 
-pub kept_in_stays : CoveringKeeps → YoungerAccessKeepsOrder → KeptInStays
-kept_in_stays keeps order shape flow part states node place line xs sol there kept =
+-- what is known stays so
+known_stays : (shape : Shape) (younger : Younger) (xs : List ℕ) (line : ℕ) → younger.known line ≡ true → (younger_along shape younger xs).known line ≡ true
+known_stays shape younger [] line h = h
+known_stays shape younger (x ∷ xs) line h =
+    known_stays shape (younger_accessed shape younger x) xs line (or_right (eqb line x) (younger.known line) h)
+
+-- what was accessed is known
+known_at : (shape : Shape) (younger : Younger) (xs : List ℕ) (k line : ℕ) → k < length xs → get_or xs k line ≡ line
+    → (younger_along shape younger xs).known line ≡ true
+known_at shape younger [] k line h e = absurd (omega arith)
+known_at shape younger (x ∷ xs) zero line h e =
+    known_stays shape (younger_accessed shape younger x) xs line (or_left (eqb line x) (younger.known line) (eq-eqb line x (sym e)))
+known_at shape younger (x ∷ xs) (suc k) line h e = known_at shape (younger_accessed shape younger x) xs k line (omega arith) e
+
+-- the accesses of nodes and of stays are to the flow's lines
+abbrev AreListed : Flow → List ℕ → Type 0
+AreListed flow xs = All (λ line. is_one_of flow.lines line ≡ true) xs
+
+listed_at : (flow : Flow) (node : ℕ) → IsFlow flow → AreListed flow (accesses_of flow node)
+listed_at flow node is = elim (cases_lt node (length flow.nodes)) [
+  | inl h ↦ All-get_or (λ accesses. AreListed flow accesses) flow.nodes node [] h is.listed
+  | inr h ↦ rw (get_or_past flow.nodes node [] h) (All-nil (λ line. is_one_of flow.lines line ≡ true))
+]
+
+stay_listed : (flow : Flow) (part : Part) (node : ℕ) (xs : List ℕ) → IsFlow flow → Stays flow part node xs → AreListed flow xs
+stay_listed flow part node xs is enters = All-nil (λ line. is_one_of flow.lines line ≡ true)
+stay_listed flow part node xs is (goes_on move before has from to there) =
+    All-append (λ line. is_one_of flow.lines line ≡ true) before (accesses_of flow move.from) (stay_listed flow part move.from before is there)
+    (listed_at flow move.from is)
+
+pub kept_in_stays : CoveringKeeps → YoungerAccessKeepsOrder → KeptIsHeld → KeptInStays
+kept_in_stays keeps order held shape flow part states node place line xs cache s c is sol there kept has =
     let more = take place (accesses_of flow node) in
     let covers = younger_run order shape (states node) (younger_along shape younger_start xs) more (younger_holds_at order shape flow part states sol node xs there) in
-    rw (younger_append shape younger_start xs more)
-    (keeps shape flow.lines (younger_along shape (states node) more) (younger_along shape (younger_along shape younger_start xs) more) line covers kept)
+    let listed = All-append (λ line. is_one_of flow.lines line ≡ true) xs more (stay_listed flow part node xs is there)
+    (All-take (λ line. is_one_of flow.lines line ≡ true) place (accesses_of flow node) (listed_at flow node is)) in
+    let low = keeps shape flow.lines (younger_along shape (states node) more) (younger_along shape (younger_along shape younger_start xs) more) line covers kept in
+    held shape flow.lines cache (xs ++ more) line s c listed (known_at shape younger_start (xs ++ more) has.0 line has.1 has.2)
+    (rw (younger_append shape younger_start xs more) low)

@@ -3,18 +3,8 @@
 use Rattle.std.specs.Prelude.{◌≡◌, ℕ, ◌<◌, true, List, [], ◌++◌, length, All, Contains, slice_index_or}
 use Rattle.wx_base.specs.Facts.{AreAscending}
 use Rattle.cache_ages.specs.Bounds.{is_one_of}
-
--- a move from one node to another
-pub record Move : Type 0 where
-  pub from : ℕ
-  pub to : ℕ
-
--- the number of the node where runs start, the lines that each node accesses in order, the moves, and all lines
-pub record Flow : Type 0 where
-  pub start : ℕ
-  pub nodes : List (List ℕ)
-  pub moves : List Move
-  pub lines : List ℕ
+use Rattle.cache_flow.specs.declared.flow.Flow.{Flow}
+use Rattle.cache_flow.specs.declared.flow.Move.{Move}
 
 -- a part of a flow that is entered at one node: each stay in it is looked at on its own
 pub record Part : Type 0 where

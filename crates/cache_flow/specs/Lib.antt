@@ -1,4 +1,3 @@
 pub mod Flows
 pub mod Solutions
-pub mod Classes
 pub mod Laws

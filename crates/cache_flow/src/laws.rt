@@ -1,10 +1,10 @@
 //! Laws of the definitions: nothing is computed here.
-ghost use Rattle.cache_flow.specs.Laws.{MustSolutionsHold, MaySolutionsHold, YoungerSolutionsHold, ClassesHold};
-ghost use Rattle.cache_flow.specs.Laws.{KeptInStays, LeastMustIsOne, LeastMayIsOne};
+ghost use Rattle.cache_flow.specs.Laws.{MustSolutionsHold, MaySolutionsHold, YoungerSolutionsHold, HeldLinesAreThere};
+ghost use Rattle.cache_flow.specs.Laws.{BarredLinesAreAbsent, KeptInStays, LeastMustIsOne, LeastMayIsOne, LeastYoungerIsOne};
 
 use cache_ages::{may_access_covers, may_bars_line, must_access_covers, must_holds_line};
 use cache_lru::access_keeps_cache;
-use cache_pers::{covering_keeps, younger_access_keeps_order};
+use cache_pers::{covering_keeps, kept_is_held, younger_access_keeps_order};
 
 /// Whatever the cache was at the start of a run, the must state of a node covers what it is there.
 pub fn must_solutions_hold()
@@ -29,26 +29,35 @@ pub fn younger_solutions_hold()
     younger_access_keeps_order();
 }
 
-/// An access whose class is to hit always hits, and one whose class is to miss always misses.
-pub fn classes_hold()
-    ensures { ClassesHold }
+/// A line that the must state at an access holds is in the cache there, in every run from every cache.
+pub fn held_lines_are_there()
+    ensures { HeldLinesAreThere }
 {
     access_keeps_cache();
     must_access_covers();
     must_holds_line();
+}
+
+/// A line that the may state at an access bars is not in the cache there, in every run from every cache.
+pub fn barred_lines_are_absent()
+    ensures { BarredLinesAreAbsent }
+{
+    access_keeps_cache();
     may_access_covers();
     may_bars_line();
 }
 
-/// A line that is kept at an access by the state of a part is kept by what the accesses of a stay in the part tell.
+/// In one stay in a part the accesses to a line where it is kept miss at most once, whatever the cache was: each of
+/// them before which the line was accessed in the stay hits.
 pub fn kept_in_stays()
     ensures { KeptInStays }
 {
     covering_keeps();
     younger_access_keeps_order();
+    kept_is_held();
 }
 
-/// Two least must solutions have the same ages at each node.
+/// Two least must solutions have the same ages of the flow's lines at each node.
 pub fn least_must_is_one()
     ensures { LeastMustIsOne }
 {}
@@ -56,4 +65,9 @@ pub fn least_must_is_one()
 /// Two least may solutions have the same ages of the flow's lines at each node.
 pub fn least_may_is_one()
     ensures { LeastMayIsOne }
+{}
+
+/// Two least solutions of a part tell the same of the flow's lines at each member.
+pub fn least_younger_is_one()
+    ensures { LeastYoungerIsOne }
 {}

@@ -43,6 +43,17 @@ pub(crate) fn make_rows(alloc: Global, lines: usize) -> Result<Vec<Vec<bool>>, N
     Ok(rows)
 }
 
+/// The same rows once more.
+pub(crate) fn copy_rows(alloc: Global, rows: &[Vec<bool>]) -> Result<Vec<Vec<bool>>, NoMemory>
+    ensures { IfOk result (λ copy. rows_of copy.items ≡ rows_of rows.now) }
+{
+    let mut copy = Vec::with_capacity(alloc, rows.len())?;
+    for row in rows {
+        copy.push(Vec::from_slice(alloc, row.as_slice())?)?;
+    }
+    Ok(copy)
+}
+
 /// Marks the accessed line as known.
 pub(crate) fn mark(known: &mut [bool], access: Access)
     requires { access.at < length known.old }

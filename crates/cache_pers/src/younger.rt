@@ -7,8 +7,8 @@ ghost use Rattle.cache_ages.specs.Bounds.{is_one_of};
 ghost use Rattle.cache_pers.specs.Stays.{younger_of, IsStay, IsFor};
 
 use crate::rows::{
-    Access, are_covered, clear, clear_each, count, make_rows, mark, note_each, place_of, unite,
-    unite_each,
+    Access, are_covered, clear, clear_each, copy_rows, count, make_rows, mark, note_each, place_of,
+    unite, unite_each,
 };
 use std::alloc::Global;
 use std::marker::Model;
@@ -61,6 +61,21 @@ impl Younger {
         let lines = lines.to_vec(alloc)?;
         Ok(Younger {
             shape,
+            lines,
+            known,
+            held,
+        })
+    }
+
+    /// The same state once more.
+    pub fn duplicate(&self, alloc: Global) -> Result<Younger, NoMemory>
+        ensures { IfOk result (λ younger. younger ≡ self.now) }
+    {
+        let lines = Vec::from_slice(alloc, self.lines.as_slice())?;
+        let known = Vec::from_slice(alloc, self.known.as_slice())?;
+        let held = copy_rows(alloc, self.held.as_slice())?;
+        Ok(Younger {
+            shape: self.shape,
             lines,
             known,
             held,

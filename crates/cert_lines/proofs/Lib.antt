@@ -4,3 +4,4 @@ mod Sound
 mod Endings
 mod Fronts
 mod ReaderLemmas
+mod Within

@@ -2,6 +2,7 @@
 #![tactic(auto)]
 
 mod kind;
+mod laws;
 mod lines_error;
 mod read;
 mod reader;
@@ -10,6 +11,7 @@ mod table;
 mod words;
 
 pub use kind::{Kind, Role, Version};
+pub use laws::no_lines_within;
 pub use lines_error::LinesError;
 pub use read::read_lines;
 pub use row::{Lines, Row};

@@ -1,5 +1,5 @@
 -- The texts of certificates, both versions, and why other bytes are none. This project's own format.
-use Rattle.std.specs.Prelude.{◌≡◌, ◌≢◌, ◌⊎◌, ℕ, List, Result, Ok, Err}
+use Rattle.std.specs.Prelude.{◌≡◌, ◌⊎◌, ℕ, List, Result, Ok, Err}
 use Rattle.cert_lines.specs.declared.kind.Version.{Version}
 use Rattle.cert_lines.specs.Grammar.{Line, IsText, StopsAt, IsCut}
 use Rattle.cert_lines.specs.declared.lines_error.LinesError.{LinesError}

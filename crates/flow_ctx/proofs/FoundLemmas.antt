@@ -15,10 +15,10 @@ use Rattle.flow_ctx.specs.declared.target.Target.{Target}
 use Rattle.flow_ctx.specs.declared.unfolded.UNode.{UNode}
 use Rattle.flow_ctx.specs.Found.{AreDifferent, AreFoundIn, IsGrown, nodes_of}
 use Rattle.flow_ctx.specs.Nodes.{BeginsAt, IsReached, IsStart, Leads, along, start, next, jump, call, ret}
-use Rattle.flow_ctx.specs.Targets.{AreTargets, HasBlockAt, HasPlace, IsInOrder, node_of}
+use Rattle.flow_ctx.specs.Targets.{AreTargets, HasPlace, IsInOrder, node_of}
 use Rattle.flow_ctx.proofs.OrderLemmas.{distinct_at}
 use Rattle.flow_ctx.proofs.SearchLemmas.{begins_once}
-use Rattle.flow_ctx.proofs.TargetLemmas.{of_begins, of_leads}
+use Rattle.flow_ctx.proofs.TargetLemmas.{reached_has_block}
 
 -- a test that tells whether two places are one node
 pub record TellsNodes (eq : Place → Place → Bool) : Type 0 where
@@ -149,13 +149,8 @@ module _ (program : Program) (order : IsInOrder program) where
           let a = place_there places from (whole from r) in
           e.closed a.0 a.1 taken x (omega (arith, h, a.2)) (slice_get_read places (length places) a.0 a.1 refl a.2 (sym a.3)) (subst (λ (m : UNode). Leads program m taken x) (sym a.4) l)
 
-  -- a node that is reached has a block
-  pub reached_has_block : (n : UNode) → IsReached program n → HasBlockAt program n
-  reached_has_block n (start x s) = of_begins program x [] program.start s
-  reached_has_block n (along from taken x r l) = of_leads program from taken x l
-
   pub reached_has_place : (q : Place) → IsReached program (node_of q) → HasPlace program q
-  reached_has_place q r = let a = reached_has_block (node_of q) r in record { function = a.function; block = a.block; is = a.is }
+  reached_has_place q r = let a = reached_has_block program (node_of q) r in record { function = a.function; block = a.block; is = a.is }
 
   -- a place that was found has a block
   pub found_has_place : (i : ℕ) (places : List Place) (k : ℕ) (p : Place) → Explored program i places → slice_get places k ≡ Some p → HasPlace program p

@@ -12,3 +12,4 @@ mod LoopLemmas
 mod BuiltLemmas
 mod CountLemmas
 mod UniqueLemmas
+mod BlockLemmas

@@ -18,7 +18,8 @@ use Rattle.flow_ctx.specs.Nodes.{IsReached, along, start, entry_after}
 use Rattle.flow_ctx.specs.Order.{IsNodeBefore}
 use Rattle.flow_ctx.specs.Targets.{HasBlockAt, IsFunctionNumber, IsInOrder, node_of}
 use Rattle.flow_ctx.specs.Unfolding.{AreNodes}
-use Rattle.flow_ctx.proofs.FoundLemmas.{node_there, place_there, reached_has_block}
+use Rattle.flow_ctx.proofs.FoundLemmas.{node_there, place_there}
+use Rattle.flow_ctx.proofs.TargetLemmas.{reached_has_block}
 use Rattle.flow_ctx.proofs.OrderLemmas.{node_apart, node_through, sorted_ascends}
 use Rattle.flow_ctx.proofs.PlaceLemmas.{place_before, place_cmp, place_eq, place_tells}
 use Rattle.flow_ctx.proofs.SearchLemmas.{same_function}
@@ -120,8 +121,8 @@ module _ (program : Program) (order : IsInOrder program) (old new : List Place) 
         where
           alike : (p q : Place) → IsReached program (node_of p) → IsReached program (node_of q) → p.chain.items ≡ q.chain.items → p.function ≡ q.function
           alike p q r s same =
-              let a = reached_has_block program order (node_of p) r in
-              let b = reached_has_block program order (node_of q) s in
+              let a = reached_has_block program (node_of p) r in
+              let b = reached_has_block program (node_of q) s in
               same_function program order (entry_after program.start q.chain.items) p.function q.function
               (record { function = a.function; stands = a.is.function_stands; begins = a.is.entry ∙ ap (entry_after program.start) same })
               (record { function = b.function; stands = b.is.function_stands; begins = b.is.entry })

@@ -12,7 +12,7 @@ use Rattle.flow_ctx.specs.declared.place.Place.{Place}
 use Rattle.flow_ctx.specs.declared.target.Target.{Target}
 use Rattle.flow_ctx.specs.declared.unfolded.Call.{Call}
 use Rattle.flow_ctx.specs.declared.unfolded.UNode.{UNode}
-use Rattle.flow_ctx.specs.Nodes.{BeginsAt, IsBlockAt, Leads, last_address, next, jump, call, ret}
+use Rattle.flow_ctx.specs.Nodes.{BeginsAt, IsBlockAt, IsReached, Leads, along, last_address, start, next, jump, call, ret}
 use Rattle.flow_ctx.specs.Targets.{Adds, AreTargets, At, AtCallee, AtNext, AtReturn, AtSome, HasBlockAt, IsInOrder, LeadTo, node_of}
 use Rattle.flow_ctx.proofs.SearchLemmas.{begins_once}
 
@@ -40,6 +40,11 @@ of_leads program from taken to (next f b address x i is begins) = of_begins prog
 of_leads program from taken to (jump f b address x i is begins) = of_begins program x from.chain address begins
 of_leads program from taken to (call f b entry x i is begins) = of_begins program x (from.chain ++ record { site = last_address b; entry = entry } ∷ []) entry begins
 of_leads program from taken to (ret f b callers last x i is after begins) = of_begins program x callers (behind last.site 1) begins
+
+-- a node that is reached has a block
+pub reached_has_block : (program : Program) (n : UNode) → IsReached program n → HasBlockAt program n
+reached_has_block program n (start x s) = of_begins program x [] program.start s
+reached_has_block program n (along from taken x r l) = of_leads program from taken x l
 
 pub adds_one : (W : Bool → UNode → Type 0) (xs : List Target) (t : Target) → W t.taken (node_of t.place)
     → ((taken : Bool) (node : UNode) → W taken node → (t.taken ≡ taken) × (node_of t.place ≡ node)) → Adds W xs (xs ++ t ∷ [])
@@ -79,10 +84,10 @@ adds_as V W xs ys there back a = record {
 }
 
 module _ (program : Program) (order : IsInOrder program) where
-  pub pushed : (chain : List Call) (start : ℕ) (taken : Bool) (xs : List Target) (place : Place) → BeginsAt program (node_of place) chain start
-      → Adds (At program chain start taken) xs (xs ++ record { place = place; taken = taken } ∷ [])
-  pushed chain start taken xs place b = adds_one (At program chain start taken) xs (record { place = place; taken = taken }) (refl, b)
-      (λ was node a. (sym a.0, begins_once program order (node_of place) node chain start b a.1))
+  pub pushed : (chain : List Call) (begin : ℕ) (taken : Bool) (xs : List Target) (place : Place) → BeginsAt program (node_of place) chain begin
+      → Adds (At program chain begin taken) xs (xs ++ record { place = place; taken = taken } ∷ [])
+  pushed chain begin taken xs place b = adds_one (At program chain begin taken) xs (record { place = place; taken = taken }) (refl, b)
+      (λ was node a. (sym a.0, begins_once program order (node_of place) node chain begin b a.1))
 
   -- the block behind the last call
   pub returns_to : (chain callers : List Call) (last : Call) (block : Block) (xs ys : List Target) → block.ret ≡ true → chain ≡ callers ++ last ∷ []

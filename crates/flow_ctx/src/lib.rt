@@ -20,6 +20,6 @@ mod unfolded;
 
 pub use construction::unfold;
 pub use error::UnfoldError;
-pub use laws::unfoldings_are_one;
+pub use laws::{nodes_have_blocks, unfoldings_are_one};
 pub use scope::Scope;
 pub use unfolded::{Call, Chain, Edge, Edges, Numbers, ULoop, ULoops, UNode, UNodes, Unfolded};

@@ -9,7 +9,8 @@ use Rattle.std.proofs.lemmas.Bool.{cases_lt, ne_eqb, false≢true}
 use Rattle.std.proofs.lemmas.List.{get_or-set_same, get_or-set_other, get_or_push, get_or_append_left}
 use Rattle.std.proofs.lemmas.List.Elements.{All-nil, All-cons}
 use Rattle.std.proofs.lemmas.List.Sums.{sum_by-set}
-use Rattle.path_problem.proofs.Sums.{bit, by_same}
+use Rattle.path_problem.proofs.Sums.{bit}
+use Rattle.path_graph.proofs.Cases.{by_same}
 use Rattle.path_problem.specs.declared.net.Link.{Link}
 use Rattle.path_problem.specs.Net.{link_at}
 use Rattle.path_problem.specs.Chain.{ArePointers, IsChain, HasRanks, IsClosed, IsRanking, CanRank, KeepsRanks, Leaves, IsEndPart, IsTrail}

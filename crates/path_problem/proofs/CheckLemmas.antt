@@ -7,10 +7,10 @@ use mir.Val.{to_z, of_z, Fits}
 use lib.Signed.{lt_z}
 use Rattle.std.proofs.lemmas.Int.{ints}
 use Rattle.std.proofs.lemmas.Bool.{cases_lt}
-use Rattle.path_problem.specs.Conditions.{IsWithin}
-use Rattle.path_problem.specs.declared.graph.Graph.{Graph}
-use Rattle.path_problem.specs.declared.graph.LoopPrices.{LoopPrices}
-use Rattle.path_problem.specs.Graph.{arc_at}
+use Rattle.path_graph.specs.Conditions.{IsWithin}
+use Rattle.path_graph.specs.declared.graph.Graph.{Graph}
+use Rattle.path_graph.specs.declared.graph.LoopPrices.{LoopPrices}
+use Rattle.path_graph.specs.Graph.{arc_at}
 use Rattle.path_problem.specs.Weight.{full_weight}
 use Rattle.path_problem.specs.Potential.{CoversArc, AreCovered}
 
@@ -27,9 +27,9 @@ module _ (g : Graph) (prices : LoopPrices) (p : List ℕ) where
     ];
   }
 
-  pub next_window : (w size : ℕ) → CoveredSoFar g prices p (w * 1024) → AreCovered g prices p (w * 1024) (w * 1024 + size) → ((a : ℕ) → a < (w + 1) * 1024 → a < length g.arcs → a < w * 1024 + size) → CoveredSoFar g prices p ((w + 1) * 1024)
+  pub next_window : (w size : ℕ) → CoveredSoFar g prices p (w * 8192) → AreCovered g prices p (w * 8192) (w * 8192 + size) → ((a : ℕ) → a < (w + 1) * 8192 → a < length g.arcs → a < w * 8192 + size) → CoveredSoFar g prices p ((w + 1) * 8192)
   next_window w size so more short = record {
-    each = λ a h l. elim (cases_lt a (w * 1024)) [
+    each = λ a h l. elim (cases_lt a (w * 8192)) [
       | inl b ↦ so.each a b l
       | inr b ↦ more.each a b (short a h l)
     ];

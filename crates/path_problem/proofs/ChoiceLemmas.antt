@@ -5,8 +5,8 @@ use Rattle.std.proofs.Math.ListN.{length-set}
 use Rattle.std.proofs.lemmas.Bool.{cases_lt, false≢true}
 use Rattle.std.proofs.lemmas.List.{take-set-le, set-set, set-get_or, get_or-replicate, get_or_past}
 use Rattle.path_problem.specs.declared.choice.Choice.{Choice}
-use Rattle.path_problem.specs.declared.graph.Graph.{Graph}
-use Rattle.path_problem.specs.declared.graph.LoopPrices.{LoopPrices}
+use Rattle.path_graph.specs.declared.graph.Graph.{Graph}
+use Rattle.path_graph.specs.declared.graph.LoopPrices.{LoopPrices}
 use Rattle.path_problem.specs.declared.path_error.PathError.{PathError}
 use Rattle.path_problem.specs.declared.solution.Outcome.{Outcome}
 use Rattle.path_problem.specs.declared.solution.Outcome.TheVariants.{Solved, TooLarge}

@@ -9,16 +9,16 @@ use Rattle.std.proofs.lemmas.List.Sums.{sum_by-cons}
 use Rattle.std.proofs.lemmas.List.Elements.{All-head, All-tail, All-nil, All-cons}
 use Rattle.std.proofs.lemmas.Slice.Zip.{length-zip}
 use Rattle.std.proofs.Math.Nat.{mul-le-mul_left}
-use Rattle.path_problem.specs.declared.graph.Graph.{Graph}
-use Rattle.path_problem.specs.declared.graph.LoopArcs.{LoopArcs}
-use Rattle.path_problem.specs.declared.graph.LoopPrices.{LoopPrices}
-use Rattle.path_problem.specs.Graph.{has, arc_at, loop_at, IsWalk, IsInside, weight_along}
+use Rattle.path_graph.specs.declared.graph.Graph.{Graph}
+use Rattle.path_graph.specs.declared.graph.LoopArcs.{LoopArcs}
+use Rattle.path_graph.specs.declared.graph.LoopPrices.{LoopPrices}
+use Rattle.path_graph.specs.Graph.{has, arc_at, loop_at, IsWalk, IsInside, weight_along}
 use Rattle.path_problem.specs.Law.{turns, is_total}
 use Rattle.path_problem.specs.Weight.{Toll, weight_under, total_price, price_toll, price_tolls, full_weight}
 use Rattle.path_problem.specs.Need.{is_chosen, need_toll, need_tolls, IsNeed, loop_price, greatest_need, price_of_total, HasNeeds, ArePrices}
-use Rattle.path_problem.specs.Conditions.{IsGraph, IsLoop, HasPrices}
+use Rattle.path_graph.specs.Conditions.{IsGraph, IsLoop, HasPrices}
 use Rattle.path_problem.specs.Potential.{NoClosedGain}
-use Rattle.path_problem.proofs.Sums.{by_test}
+use Rattle.path_graph.proofs.Cases.{by_test}
 use Rattle.path_problem.proofs.CountLemmas.{entries_of, count_by-cons}
 use Rattle.path_problem.proofs.LawLemmas.{gains, losses, total-weight_under}
 use Rattle.path_problem.proofs.PartLemmas.{closed_both, Both}

@@ -1,10 +1,10 @@
 -- How many back arcs a walk takes that keeps to a loop's count.
 use Rattle.std.proofs.Common.{◌≡◌, ℕ, ◌+◌, ◌*◌, ◌≤◌, Bool, true, false, cond, ◌||◌, List, [], ◌∷◌, ◌++◌, refl, ap, ◌∙◌, arith}
 use Rattle.std.specs.Prelude.{count_by}
-use Rattle.path_problem.specs.declared.graph.LoopArcs.{LoopArcs}
-use Rattle.path_problem.specs.Graph.{has}
+use Rattle.path_graph.specs.declared.graph.LoopArcs.{LoopArcs}
+use Rattle.path_graph.specs.Graph.{has}
 use Rattle.path_problem.specs.Law.{turns, enters, KeepsCount}
-use Rattle.path_problem.proofs.Sums.{by_test}
+use Rattle.path_graph.proofs.Cases.{by_test}
 use Rattle.std.proofs.lemmas.List.Sums.{sum_by-cons}
 
 pub count_by-cons : (p : ℕ → Bool) (x : ℕ) (xs : List ℕ) → count_by p (x ∷ xs) ≡ cond (p x) 1 0 + count_by p xs

@@ -5,10 +5,10 @@ use Rattle.std.proofs.lemmas.Int.{ints}
 use Rattle.std.proofs.lemmas.List.{get_or-set_same, get_or-set_other}
 use Rattle.std.proofs.Math.ListN.{length-set}
 use Rattle.path_problem.specs.declared.net.Link.{Link}
-use Rattle.path_problem.specs.Graph.{weight_along}
+use Rattle.path_graph.specs.Graph.{weight_along}
 use Rattle.path_problem.specs.Net.{link_at, link_weight, IsLinked, AreLinks, Gain, Comes, PointsOn, AreLabels}
 use Rattle.path_problem.specs.Chain.{IsChain, AreRanks}
-use Rattle.path_problem.proofs.Sums.{by_same}
+use Rattle.path_graph.proofs.Cases.{by_same}
 
 module _ (links : List Link) (count price : ℕ) (start values : List ℤ) (next : List (Option ℕ)) (labels : AreLabels links count price start values next) where
   -- a label takes the better value along a link

@@ -8,14 +8,15 @@ use Rattle.std.proofs.lemmas.List.Sums.{sum_by-cons}
 use Rattle.std.proofs.lemmas.List.Elements.{All-head, All-tail, All-from_get_or}
 use Rattle.std.proofs.lemmas.Slice.Zip.{firsts-zip}
 use Rattle.std.proofs.Math.Nat.{mul-le-mul_left}
-use Rattle.path_problem.specs.declared.graph.Graph.{Graph}
-use Rattle.path_problem.specs.declared.graph.LoopArcs.{LoopArcs}
-use Rattle.path_problem.specs.declared.graph.LoopPrices.{LoopPrices}
-use Rattle.path_problem.specs.Graph.{has, arc_at, loop_at, finish_at, weight_along}
+use Rattle.path_graph.specs.declared.graph.Graph.{Graph}
+use Rattle.path_graph.specs.declared.graph.LoopArcs.{LoopArcs}
+use Rattle.path_graph.specs.declared.graph.LoopPrices.{LoopPrices}
+use Rattle.path_graph.specs.Graph.{has, arc_at, loop_at, finish_at, weight_along}
 use Rattle.path_problem.specs.Weight.{Toll, gain_of, loss_of, weight_under, total_price, price_toll, price_tolls, full_weight}
-use Rattle.path_problem.specs.Conditions.{IsGraph, IsLoop, HasPrices}
+use Rattle.path_graph.specs.Conditions.{IsGraph, IsLoop, HasPrices}
 use Rattle.path_problem.specs.Law.{turns, is_total, KeepsCount, KeepsCounts, loops_worth, totals_worth, PricesBoundWalks}
-use Rattle.path_problem.proofs.Sums.{by_test, sum_by-both, sum_by-less, sum_by-none, sum_by-map, sum_below, sum_below-both, sum_below-none, sum_below-less, sum_below-one, products_below, All-zip}
+use Rattle.path_problem.proofs.Sums.{sum_by-both, sum_by-less, sum_by-none, sum_by-map, sum_below, sum_below-both, sum_below-none, sum_below-less, sum_below-one, products_below, All-zip}
+use Rattle.path_graph.proofs.Cases.{by_test}
 use Rattle.path_problem.proofs.CountLemmas.{count_by-cons, entries_of, turns-le}
 use Rattle.path_problem.proofs.WalkLemmas.{telescope, walk_end}
 

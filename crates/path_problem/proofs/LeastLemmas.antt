@@ -9,10 +9,10 @@ use Rattle.std.proofs.lemmas.List.{take_more}
 use Rattle.std.proofs.lemmas.List.Sums.{sum_by_push, sum_by-cons}
 use Rattle.std.proofs.lemmas.List.Elements.{All-nil, All-cons}
 use Rattle.std.proofs.Math.Nat.{mul-le-mul_left}
-use Rattle.path_problem.specs.declared.graph.TheConstants.{LARGEST}
+use Rattle.path_graph.specs.declared.graph.TheConstants.{LARGEST}
 use Rattle.path_problem.specs.declared.net.Link.{Link}
-use Rattle.path_problem.specs.Conditions.{IsWithin}
-use Rattle.path_problem.specs.Graph.{weight_along}
+use Rattle.path_graph.specs.Conditions.{IsWithin}
+use Rattle.path_graph.specs.Graph.{weight_along}
 use Rattle.path_problem.specs.declared.net.Settlement.{Settlement}
 use Rattle.path_problem.specs.declared.net.Settlement.TheVariants.{Settled, Gains}
 use Rattle.std.specs.Global.{Vec}

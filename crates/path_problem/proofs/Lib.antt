@@ -8,6 +8,7 @@ pub mod CheckLemmas
 pub mod LabelLemmas
 pub mod NetLemmas
 pub mod ChainLemmas
+pub mod SourceLemmas
 pub mod WholeLemmas
 pub mod LeastLemmas
 pub mod PartLemmas
@@ -15,4 +16,3 @@ pub mod NeedLemmas
 pub mod ClosedLemmas
 pub mod SolutionLemmas
 pub mod ChoiceLemmas
-pub mod TestedLemmas

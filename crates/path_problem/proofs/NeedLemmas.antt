@@ -6,11 +6,11 @@ use Rattle.std.proofs.lemmas.Bool.{cases_lt}
 use Rattle.std.proofs.lemmas.List.{get_or_append_left, get_or_push, take-append-le, take_more, take_all, map-append}
 use Rattle.std.proofs.lemmas.List.Elements.{All-push, All-nil}
 use Rattle.std.proofs.lemmas.Slice.Zip.{length-zip, get_or-zip}
-use Rattle.path_problem.specs.declared.graph.Graph.{Graph}
-use Rattle.path_problem.specs.declared.graph.LoopArcs.{LoopArcs}
-use Rattle.path_problem.specs.declared.graph.TheConstants.{LARGEST}
-use Rattle.path_problem.specs.Conditions.{IsWithin, AreBounded}
-use Rattle.path_problem.specs.Graph.{loop_at}
+use Rattle.path_graph.specs.declared.graph.Graph.{Graph}
+use Rattle.path_graph.specs.declared.graph.LoopArcs.{LoopArcs}
+use Rattle.path_graph.specs.declared.graph.TheConstants.{LARGEST}
+use Rattle.path_graph.specs.Conditions.{IsWithin, AreBounded}
+use Rattle.path_graph.specs.Graph.{loop_at}
 use Rattle.path_problem.specs.Law.{is_total}
 use Rattle.path_problem.specs.Need.{is_chosen, need_toll, need_tolls, IsNeed, AreNeeds, IsLoopLarge, loop_price, price_of_total, HasNeeds, AreAllNeeds, AreTotalPrices, IsRaised}
 use Rattle.path_problem.specs.Part.{IsSmallNeed, NoneServes}

@@ -8,7 +8,7 @@ use Rattle.std.specs.Prelude.{MatchOption}
 use Rattle.std.proofs.lemmas.Int.{ints, to_z-of_z}
 use Rattle.path_problem.proofs.TollLemmas.{fits_within, within_sum}
 use Rattle.path_problem.specs.declared.net.Link.{Link}
-use Rattle.path_problem.specs.Conditions.{IsWithin}
+use Rattle.path_graph.specs.Conditions.{IsWithin}
 use Rattle.path_problem.specs.Window.{weight_limit}
 use Rattle.std.proofs.Common.{replicate}
 use Rattle.std.specs.Prelude.{negsuc, ◌-ℤ◌, unsigned_abs}
@@ -18,7 +18,7 @@ use Rattle.std.proofs.lemmas.List.{length-replicate, get_or-replicate}
 use Rattle.std.proofs.lemmas.List.Elements.{All-set, All-weaker, All-from_get_or}
 use Rattle.path_problem.specs.Net.{link_at, link_weight, AreLinks, Gain, IsShortGain, IsSettled, HasSettled, PointsOn, AreLabels, excess, gap}
 use Rattle.path_problem.specs.Chain.{ArePointers, IsChain, HasRanks, IsClosed}
-use Rattle.path_problem.proofs.Sums.{by_test}
+use Rattle.path_graph.proofs.Cases.{by_test}
 use Rattle.path_problem.proofs.LabelLemmas.{update, closed_chain_gains, value_below}
 use Rattle.std.proofs.lemmas.List.Sums.{sum_by-set}
 

@@ -1,17 +1,18 @@
 -- The part of a graph inside a loop: its closed walks are those inside the loop, so its least price is the loop's need.
 use Rattle.std.proofs.Common.{◌≡◌, ℕ, ◌+◌, ◌^◌, ◌<◌, ◌≤◌, Bool, true, false, cond, List, [], ◌∷◌, ◌++◌, map, length, get_or, refl, sym, ap, subst, ◌∙◌, zero-add, arith}
 use Rattle.std.specs.Prelude.{ℤ, pos, ◌+ℤ◌, ◌-ℤ◌, ◌≤ℤ◌, IsTrue}
-use Rattle.std.specs.List.{All, zip}
+use Rattle.std.specs.List.{All, Contains, zip}
 use Rattle.std.proofs.lemmas.Int.{ints}
-use Rattle.std.proofs.lemmas.List.{map-append}
+use Rattle.std.proofs.lemmas.List.{map-append, get_or_default}
+use Rattle.path_graph.specs.Sources.{HasArcsOf, AreSame}
 use Rattle.std.proofs.lemmas.List.Sums.{sum_by_push}
 use Rattle.std.proofs.lemmas.List.Elements.{All-head, All-tail, All-nil, All-cons}
-use Rattle.path_problem.specs.declared.graph.Graph.{Graph}
-use Rattle.path_problem.specs.declared.graph.LoopArcs.{LoopArcs}
-use Rattle.path_problem.specs.declared.graph.TheConstants.{LARGEST}
+use Rattle.path_graph.specs.declared.graph.Graph.{Graph}
+use Rattle.path_graph.specs.declared.graph.LoopArcs.{LoopArcs}
+use Rattle.path_graph.specs.declared.graph.TheConstants.{LARGEST}
 use Rattle.path_problem.specs.declared.net.Link.{Link}
-use Rattle.path_problem.specs.Conditions.{IsWithin, IsLoop, IsGraph}
-use Rattle.path_problem.specs.Graph.{has, arc_at, loop_at, IsWalk, IsInside, weight_along}
+use Rattle.path_graph.specs.Conditions.{IsWithin, IsLoop, IsGraph}
+use Rattle.path_graph.specs.Graph.{has, arc_at, loop_at, IsWalk, IsInside, weight_along}
 use Rattle.path_problem.specs.Least.{IsPart, HasGain, GainsBelow, IsLeastPrice}
 use Rattle.path_problem.specs.Need.{need_toll, need_tolls, Serves, IsNeed}
 use Rattle.path_problem.specs.Net.{link_at, link_weight, IsLinked, IsSettled}
@@ -23,7 +24,7 @@ use Rattle.path_problem.specs.Weight.{gain_of, loss_of, weight_under}
 use Rattle.path_problem.specs.Window.{AreWeights, weight_limit}
 use Rattle.std.proofs.Common.{inl, inr}
 use Rattle.std.proofs.lemmas.Bool.{cases_lt}
-use Rattle.path_problem.proofs.Sums.{by_test}
+use Rattle.path_graph.proofs.Cases.{by_test, has_at, place_in}
 use Rattle.path_problem.proofs.WalkLemmas.{telescope}
 use Rattle.std.specs.Prelude.{nat_eq}
 use Rattle.std.proofs.Common.{suc, ◌||◌, set, get_or-set_same, get_or-set_other, length-append}
@@ -204,20 +205,6 @@ module _ (g : Graph) (chosen : List Bool) (needs : List ℕ) (weights : List ℤ
 
 -- ---- the names of members
 
--- a number in a list has a place there, and what stands at a place is in it
-pub has_at : (xs : List ℕ) (i : ℕ) → i < length xs → IsTrue (has xs (get_or xs i 0))
-has_at xs i h = list_any_at (λ m. nat_eq m (get_or xs i 0)) xs i 0 h (eq-eqb (get_or xs i 0) (get_or xs i 0) refl)
-
-pub place_in : (xs : List ℕ) (v : ℕ) → IsTrue (has xs v) → (i : ℕ) × (i < length xs) × (get_or xs i 0 ≡ v)
-place_in [] v h = absurd (false≢true h)
-place_in (x ∷ xs) v h = by_test (nat_eq x v)
-    (λ e. (0, omega arith, eqb-true x v e))
-    (λ e.
-    let rest : has xs v ≡ true = sym (ap (λ b. b || has xs v) e) ∙ h in
-    let r = place_in xs v rest in
-    let b = r.1 in
-    (suc r.0, omega arith, r.2))
-
 pub record NamesSoFar (members : List ℕ) (count : ℕ) (size : ℕ) (names places : List ℕ) : Type 0 where
   pub same : length places ≡ size
   pub each : (k : ℕ) → k < count → IsPlace names places (get_or members k 0) (get_or places (get_or members k 0) 0)
@@ -226,10 +213,11 @@ pub record NamesSoFar (members : List ℕ) (count : ℕ) (size : ℕ) (names pla
   pub below : All (λ v. v < size) names
   pub distinct : IsDistinct eqb names
 
--- the links of the first arcs
-pub record InnerSoFar (g : Graph) (l : LoopArcs) (weights : List ℤ) (names places : List ℕ) (count : ℕ) (links : List Link) : Type 0 where
+-- the links of the first of some arcs
+pub record InnerSoFar (g : Graph) (l : LoopArcs) (weights : List ℤ) (names places arcs : List ℕ) (count : ℕ) (links : List Link) : Type 0 where
   pub each : All (IsInner g l weights names places) links
-  pub all : (a : ℕ) → a < count → IsTrue (has l.members (arc_at g a).from) → IsTrue (has l.members (arc_at g a).to) → HasLink links a
+  pub all : (k : ℕ) → k < count → IsTrue (has l.members (arc_at g (get_or arcs k 0)).from) → IsTrue (has l.members (arc_at g (get_or arcs k 0)).to)
+      → HasLink links (get_or arcs k 0)
 
 -- one member more, that has a place already
 pub named_already : (members : List ℕ) (i size : ℕ) (names places : List ℕ) (n : ℕ) → NamesSoFar members i size names places → IsPlace names places (get_or members i 0) n → NamesSoFar members (i + 1) size names places
@@ -352,24 +340,35 @@ are_names members i size names places s h = record {
 
 -- ---- the links of the first arcs
 
-module _ (g : Graph) (l : LoopArcs) (weights : List ℤ) (names places : List ℕ) (count : ℕ) (links : List Link) (s : InnerSoFar g l weights names places count links) where
-  pub inner_skip : (IsTrue (has l.members (arc_at g count).from) → IsTrue (has l.members (arc_at g count).to) → ⊥) → InnerSoFar g l weights names places (count + 1) links
+module _ (g : Graph) (l : LoopArcs) (weights : List ℤ) (names places arcs : List ℕ) (count : ℕ) (links : List Link) (s : InnerSoFar g l weights names places arcs count links) where
+  abbrev Linked : List Link → ℕ → Type 0
+  Linked after k =
+      IsTrue (has l.members (arc_at g (get_or arcs k 0)).from) → IsTrue (has l.members (arc_at g (get_or arcs k 0)).to) → HasLink after (get_or arcs k 0)
+
+  pub inner_skip : (IsTrue (has l.members (arc_at g (get_or arcs count 0)).from) → IsTrue (has l.members (arc_at g (get_or arcs count 0)).to) → ⊥) → InnerSoFar g l weights names places arcs (count + 1) links
   inner_skip out = record {
     each = s.each;
-    all = λ a h f t. elim (cases_lt a count) [
-      | inl b ↦ s.all a b f t
+    all = λ k h. elim (cases_lt k count) [
+      | inl b ↦ s.all k b
       | inr b ↦
-          let e : a ≡ count = omega arith in
-          absurd (out (subst (λ (k : ℕ). IsTrue (has l.members (arc_at g k).from)) e f) (subst (λ (k : ℕ). IsTrue (has l.members (arc_at g k).to)) e t))
+          let e : count ≡ k = omega arith in
+          subst (Linked links) e (λ f t. absurd (out f t))
     ];
   }
 
-  pub inner_more : (link : Link) → IsInnerAt g l weights names places count link → InnerSoFar g l weights names places (count + 1) (links ++ link ∷ [])
+  pub inner_more : (link : Link) → IsInnerAt g l weights names places (get_or arcs count 0) link → InnerSoFar g l weights names places arcs (count + 1) (links ++ link ∷ [])
   inner_more link is = record {
     each = All-push (IsInner g l weights names places) links link s.each is.inner;
-    all = λ a h f t. elim (cases_lt a count) [
-      | inl b ↦
-          let p = s.all a b f t in
+    all = λ k h. elim (cases_lt k count) [
+      | inl b ↦ λ f t. still (get_or arcs k 0) (s.all k b f t)
+      | inr b ↦
+          let e : count ≡ k = omega arith in
+          subst (Linked (links ++ link ∷ [])) e (λ f t. now)
+    ];
+  }
+    where
+      still : (a : ℕ) → HasLink links a → HasLink (links ++ link ∷ []) a
+      still a p =
           let long = length-append links (link ∷ []) in
           let inside = p.within in
           record {
@@ -377,16 +376,48 @@ module _ (g : Graph) (l : LoopArcs) (weights : List ℤ) (names places : List �
             within = omega arith;
             is = ap (λ (m : Link). m.arc) (get_or_append_left links (link ∷ []) _ p.place p.within) ∙ p.is;
           }
-      | inr b ↦
-          let e : count ≡ a = omega arith in
+
+      now : HasLink (links ++ link ∷ []) (get_or arcs count 0)
+      now =
           let long = length-append links (link ∷ []) in
           record {
             place = length links;
             within = omega arith;
-            is = ap (λ (m : Link). m.arc) (get_or_push links link _ (length links) refl) ∙ is.arc ∙ e;
+            is = ap (λ (m : Link). m.arc) (get_or_push links link _ (length links) refl) ∙ is.arc;
           }
-    ];
-  }
+
+contains_of : (xs : List ℕ) (v : ℕ) → IsTrue (has xs v) → Contains xs v
+contains_of xs v h =
+    let p = place_in xs v h in
+    (p.0, p.1, get_or_default xs p.0 v 0 p.1 ∙ p.2)
+
+has_of : (xs : List ℕ) (v : ℕ) → Contains xs v → IsTrue (has xs v)
+has_of xs v c =
+    subst (λ (w : ℕ). IsTrue (has xs w)) (sym (get_or_default xs c.0 v 0 c.1) ∙ c.2) (has_at xs c.0 c.1)
+
+-- once all arcs of the members were linked
+pub all_inner : (g : Graph) (l : LoopArcs) (weights : List ℤ) (names places arcs : List ℕ) (count : ℕ) (links : List Link) → InnerSoFar g l weights names places arcs count links → length arcs ≤ count → HasArcsOf g l.members arcs → AreInner g l weights names places links
+all_inner g l weights names places arcs count links s h listed = record {
+  each = s.each;
+  all = λ a b f t.
+      let c = listed.each a b (contains_of l.members (arc_at g a).from f) in
+      let inside = c.1 in
+      let is : get_or arcs c.0 0 ≡ a = sym (get_or_default arcs c.0 a 0 c.1) ∙ c.2 in
+      let F : ℕ → Type 0 = λ k. IsTrue (has l.members (arc_at g k).from) → IsTrue (has l.members (arc_at g k).to) → HasLink links k in
+      subst F is (s.all c.0 (omega arith)) f t;
+}
+
+-- ---- members in another order
+
+pub same_names : (members others names places : List ℕ) → AreSame members others → AreNames others names places → AreNames members names places
+same_names members others names places same are = record {
+  each = λ v h. are.each v (has_of others v (same.there v (contains_of members v h)));
+  only = λ n h. has_of members (get_or names n 0) (same.back (get_or names n 0) (contains_of others (get_or names n 0) (are.only n h)));
+  few = are.few;
+}
+
+pub same_arcs : (g : Graph) (members others arcs : List ℕ) → AreSame members others → HasArcsOf g others arcs → HasArcsOf g members arcs
+same_arcs g members others arcs same listed = record { each = λ a h c. listed.each a h (same.there (arc_at g a).from c) }
 
 -- ---- the answer
 
@@ -405,9 +436,9 @@ need_gives g number l weights names places links o graph here is size part m = r
       small = least.small;
     }
 
-pub inner_same : {g : Graph} {l : LoopArcs} {weights : List ℤ} {names places : List ℕ} {count : ℕ} {links links' : List Link} → links' ≡ links → InnerSoFar g l weights names places count links → InnerSoFar g l weights names places count links'
-inner_same {g} {l} {weights} {names} {places} {count} {links} {links'} e s =
-    let F : List Link → Type 0 = λ x. InnerSoFar g l weights names places count x in
+pub inner_same : {g : Graph} {l : LoopArcs} {weights : List ℤ} {names places arcs : List ℕ} {count : ℕ} {links links' : List Link} → links' ≡ links → InnerSoFar g l weights names places arcs count links → InnerSoFar g l weights names places arcs count links'
+inner_same {g} {l} {weights} {names} {places} {arcs} {count} {links} {links'} e s =
+    let F : List Link → Type 0 = λ x. InnerSoFar g l weights names places arcs count x in
     subst F (sym e) s
 
 pub nothing_at : (P : Type 0) (Q : ℕ → Type 0) (o : Option ℕ) (b : Bool) → is_some o ≡ not b → b ≡ true → MatchOption o P Q → P

@@ -4,11 +4,11 @@ use Rattle.std.specs.List.{zip, sum_by}
 use Rattle.std.proofs.lemmas.List.{take_all, take_more}
 use Rattle.std.proofs.lemmas.List.Sums.{sum_by_push}
 use Rattle.std.proofs.lemmas.Slice.Zip.{length-zip, get_or-zip}
-use Rattle.path_problem.specs.declared.graph.Graph.{Graph}
-use Rattle.path_problem.specs.declared.graph.LoopPrices.{LoopPrices}
+use Rattle.path_graph.specs.declared.graph.Graph.{Graph}
+use Rattle.path_graph.specs.declared.graph.LoopPrices.{LoopPrices}
 use Rattle.path_problem.specs.declared.solution.Amount.{Amount}
 use Rattle.path_problem.specs.Choice.{origin_worth, path_value}
-use Rattle.path_problem.specs.Conditions.{HasPrices}
+use Rattle.path_graph.specs.Conditions.{HasPrices}
 use Rattle.path_problem.specs.Law.{totals_worth}
 use Rattle.path_problem.specs.Solution.{number}
 

@@ -11,13 +11,6 @@ use Rattle.std.proofs.lemmas.List.Elements.{All-head, All-tail, All-nil, All-con
 abbrev pub bit : Bool → ℕ
 bit b = cond b 1 0
 
-pub by_test : {P : Type 0} (b : Bool) → (b ≡ true → P) → (b ≡ false → P) → P
-by_test true f g = f refl
-by_test false f g = g refl
-
-pub by_same : {P : Type 0} (a b : ℕ) → (a ≡ b → P) → ((a ≡ b → ⊥) → P) → P
-by_same a b f g = elim (cases_eq a b) [ inl e ↦ f e | inr n ↦ g n ]
-
 module _ {X : Type 0} where
   pub sum_by-both : (f g h : X → ℕ) → ((x : X) → h x ≡ f x + g x) → (xs : List X) → sum_by h xs ≡ sum_by f xs + sum_by g xs
   sum_by-both f g h e [] = refl

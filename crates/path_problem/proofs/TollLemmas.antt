@@ -6,20 +6,20 @@ use Rattle.std.specs.List.{All, zip}
 use mir.Val.{to_z, of_z}
 use Rattle.std.proofs.lemmas.Int.{ints, to_z-of_z}
 use Rattle.std.proofs.Math.Nat.{mul-le-mul_left}
-use Rattle.path_problem.specs.declared.graph.TheConstants.{LARGEST}
+use Rattle.path_graph.specs.declared.graph.TheConstants.{LARGEST}
 use Rattle.std.proofs.lemmas.List.{take_more, length-map, get_or-map, take_all}
 use Rattle.std.proofs.lemmas.Slice.Zip.{length-zip, get_or-zip}
 use Rattle.std.specs.Prelude.{None}
-use Rattle.path_problem.specs.declared.graph.LoopArcs.{LoopArcs}
+use Rattle.path_graph.specs.declared.graph.LoopArcs.{LoopArcs}
 use Rattle.std.proofs.lemmas.List.Sums.{sum_by_push}
 use Rattle.std.proofs.lemmas.List.Elements.{All-from_get_or}
-use Rattle.path_problem.specs.declared.graph.Graph.{Graph}
-use Rattle.path_problem.specs.declared.graph.LoopPrices.{LoopPrices}
-use Rattle.path_problem.specs.Graph.{has, loop_at}
-use Rattle.path_problem.specs.Conditions.{IsWithin, HasPrices}
+use Rattle.path_graph.specs.declared.graph.Graph.{Graph}
+use Rattle.path_graph.specs.declared.graph.LoopPrices.{LoopPrices}
+use Rattle.path_graph.specs.Graph.{has, loop_at}
+use Rattle.path_graph.specs.Conditions.{IsWithin, HasPrices}
 use Rattle.path_problem.specs.Weight.{Toll, gain_of, loss_of, total_price, price_toll, price_tolls}
 use Rattle.path_problem.specs.Window.{IsAdded, AreWeights, toll_of, weight_limit}
-use Rattle.path_problem.proofs.Sums.{by_test}
+use Rattle.path_graph.proofs.Cases.{by_test}
 
 -- the weights with the tolls of the first loops
 pub record WeightsSoFar (g : Graph) (prices : LoopPrices) (first count : ℕ) (weights : List ℤ) (stamps : List ℕ) : Type 0 where

@@ -9,12 +9,12 @@ use Rattle.std.proofs.lemmas.List.Elements.{All-push, All-from_get_or}
 use Rattle.std.specs.Prelude.{Result, Ok, Err, IfOk}
 use Rattle.path_problem.specs.declared.net.Settlement.{Settlement}
 use Rattle.std.proofs.lemmas.Int.{ints}
-use Rattle.path_problem.specs.declared.graph.Graph.{Graph}
-use Rattle.path_problem.specs.declared.graph.LoopPrices.{LoopPrices}
-use Rattle.path_problem.specs.declared.graph.TheConstants.{LARGEST}
+use Rattle.path_graph.specs.declared.graph.Graph.{Graph}
+use Rattle.path_graph.specs.declared.graph.LoopPrices.{LoopPrices}
+use Rattle.path_graph.specs.declared.graph.TheConstants.{LARGEST}
 use Rattle.path_problem.specs.declared.net.Link.{Link}
-use Rattle.path_problem.specs.Conditions.{IsWithin, IsGraph}
-use Rattle.path_problem.specs.Graph.{arc_at, finish_at, IsWalk, weight_along}
+use Rattle.path_graph.specs.Conditions.{IsWithin, IsGraph}
+use Rattle.path_graph.specs.Graph.{arc_at, finish_at, IsWalk, weight_along}
 use Rattle.path_problem.specs.Net.{link_at, link_weight, IsLinked, AreLinks, Gain, HasSettled, SettlesOrGains}
 use Rattle.path_problem.specs.Weight.{price_tolls, full_weight}
 use Rattle.path_problem.specs.Window.{AreWeights, weight_limit}

@@ -7,9 +7,9 @@ use Rattle.std.proofs.Math.ListN.{length-set}
 use Rattle.std.proofs.lemmas.Bool.{ne_eqb, eq-eqb}
 use Rattle.std.proofs.lemmas.List.Folds.{list_any_more}
 use Rattle.std.proofs.lemmas.List.Elements.{All-set}
-use Rattle.path_problem.specs.declared.graph.Graph.{Graph}
-use Rattle.path_problem.specs.Graph.{has, arc_at}
-use Rattle.path_problem.proofs.Sums.{by_same}
+use Rattle.path_graph.specs.declared.graph.Graph.{Graph}
+use Rattle.path_graph.specs.Graph.{has, arc_at}
+use Rattle.path_graph.proofs.Cases.{by_same}
 
 -- the amount is added at each arc that the first i list, and the stamp tells which these are
 pub record AddedSoFar (listed : List ℕ) (i first : ℕ) (amount : ℤ) (stamp : ℕ) (old new : List ℤ) (stamps : List ℕ) : Type 0 where

@@ -1,12 +1,12 @@
 -- What a choice of totals comes to, and the choice that is made turn by turn. This project's own.
 use Rattle.std.specs.Prelude.{◌≡◌, ℕ, ◌+◌, ◌-◌, ◌*◌, ◌<◌, ◌↔◌, Bool, true, false, List, [], ◌∷◌, ◌++◌, take, replicate, length, slice_index}
 use Rattle.std.specs.Prelude.{slice_index_or, Option, Some, None, Result, Ok, Err}
-use Rattle.path_problem.specs.declared.graph.Graph.{Graph}
-use Rattle.path_problem.specs.declared.graph.LoopPrices.{LoopPrices}
+use Rattle.path_graph.specs.declared.graph.Graph.{Graph}
+use Rattle.path_graph.specs.declared.graph.LoopPrices.{LoopPrices}
 use Rattle.path_problem.specs.declared.choice.Choice.{Choice}
 use Rattle.path_problem.specs.declared.path_error.PathError.{PathError}
 use Rattle.path_problem.specs.declared.path_error.PathError.TheVariants.{LoopLarge, VertexLarge, NoMemory}
-use Rattle.path_problem.specs.Graph.{loop_at}
+use Rattle.path_graph.specs.Graph.{loop_at}
 use Rattle.path_problem.specs.Law.{totals_worth}
 use Rattle.path_problem.specs.Need.{HasNeeds, IsLoopLarge}
 use Rattle.path_problem.specs.Potential.{ArePotentials, IsVertexLarge}

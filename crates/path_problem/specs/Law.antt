@@ -2,11 +2,11 @@
 use Rattle.std.specs.Prelude.{◌≡◌, ℕ, ◌+◌, ◌*◌, ◌<◌, ◌≤◌, Bool, false, ◌==◌, List, ◌++◌, length, slice_index}
 use Rattle.std.specs.Prelude.{if◌then◌else◌, pos, ◌+ℤ◌, ◌≤ℤ◌, Option, Some, None, count_by}
 use Rattle.std.specs.List.{sum_by, zip, list_any}
-use Rattle.path_problem.specs.declared.graph.Graph.{Graph}
-use Rattle.path_problem.specs.declared.graph.LoopArcs.{LoopArcs}
-use Rattle.path_problem.specs.declared.graph.LoopPrices.{LoopPrices}
-use Rattle.path_problem.specs.Graph.{has, arc_at, loop_at, finish_at, IsWalk, weight_along}
-use Rattle.path_problem.specs.Conditions.{IsGraph, HasPrices}
+use Rattle.path_graph.specs.declared.graph.Graph.{Graph}
+use Rattle.path_graph.specs.declared.graph.LoopArcs.{LoopArcs}
+use Rattle.path_graph.specs.declared.graph.LoopPrices.{LoopPrices}
+use Rattle.path_graph.specs.Graph.{has, arc_at, loop_at, finish_at, IsWalk, weight_along}
+use Rattle.path_graph.specs.Conditions.{IsGraph, HasPrices}
 use Rattle.path_problem.specs.Potential.{Cover}
 
 -- how many back arcs of a loop a walk takes

@@ -1,8 +1,8 @@
 -- The least price at which no closed walk along links gains. This project's own.
 use Rattle.std.specs.Prelude.{ℕ, ◌*◌, ◌^◌, ◌<◌, ◌≤◌, List, length, ℤ, pos, ◌≤ℤ◌, ◌<ℤ◌, count_by}
-use Rattle.path_problem.specs.declared.graph.TheConstants.{LARGEST}
+use Rattle.path_graph.specs.declared.graph.TheConstants.{LARGEST}
 use Rattle.path_problem.specs.declared.net.Link.{Link}
-use Rattle.path_problem.specs.Conditions.{IsWithin}
+use Rattle.path_graph.specs.Conditions.{IsWithin}
 use Rattle.path_problem.specs.Net.{link_at, AreLinks, Gain, IsSettled}
 use Rattle.path_problem.specs.Window.{weight_limit}
 

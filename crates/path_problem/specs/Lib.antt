@@ -1,6 +1,4 @@
-pub mod Graph
 pub mod Weight
-pub mod Conditions
 pub mod Potential
 pub mod Law
 pub mod Window
@@ -12,4 +10,4 @@ pub mod Chain
 pub mod Whole
 pub mod Choice
 pub mod Solution
-pub mod Tested
+pub mod Layout

@@ -2,11 +2,11 @@
 use Rattle.std.specs.Prelude.{◌≡◌, ℕ, ◌*◌, ◌<◌, ◌≤◌, max, Bool, false, List, [], ◌∷◌, ◌++◌, map, take, length, slice_index}
 use Rattle.std.specs.Prelude.{slice_index_or, if◌then◌else◌, ℤ, pos, ◌≤ℤ◌, Option, Some, None}
 use Rattle.std.specs.List.{All, fold, zip}
-use Rattle.path_problem.specs.declared.graph.Graph.{Graph}
-use Rattle.path_problem.specs.declared.graph.LoopArcs.{LoopArcs}
-use Rattle.path_problem.specs.declared.graph.LoopPrices.{LoopPrices}
-use Rattle.path_problem.specs.declared.graph.TheConstants.{LARGEST}
-use Rattle.path_problem.specs.Graph.{loop_at, IsWalk, IsInside, weight_along}
+use Rattle.path_graph.specs.declared.graph.Graph.{Graph}
+use Rattle.path_graph.specs.declared.graph.LoopArcs.{LoopArcs}
+use Rattle.path_graph.specs.declared.graph.LoopPrices.{LoopPrices}
+use Rattle.path_graph.specs.declared.graph.TheConstants.{LARGEST}
+use Rattle.path_graph.specs.Graph.{loop_at, IsWalk, IsInside, weight_along}
 use Rattle.path_problem.specs.Weight.{Toll, weight_under}
 use Rattle.path_problem.specs.Law.{is_total}
 

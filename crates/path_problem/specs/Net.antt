@@ -7,8 +7,8 @@ use Rattle.std.specs.List.{sum_by}
 use Rattle.path_problem.specs.declared.net.Link.{Link}
 use Rattle.path_problem.specs.declared.net.Settlement.{Settlement}
 use Rattle.path_problem.specs.declared.net.Settlement.TheVariants.{Settled, Gains}
-use Rattle.path_problem.specs.Conditions.{IsWithin}
-use Rattle.path_problem.specs.Graph.{weight_along}
+use Rattle.path_graph.specs.Conditions.{IsWithin}
+use Rattle.path_graph.specs.Graph.{weight_along}
 use Rattle.path_problem.specs.Window.{weight_limit}
 
 -- the link with a number

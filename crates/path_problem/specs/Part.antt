@@ -1,11 +1,11 @@
 -- The part of a graph inside a loop, as links between numbers of its members. This project's own.
 use Rattle.std.specs.Prelude.{◌≡◌, ℕ, ◌<◌, ◌≤◌, List, length, slice_index, slice_index_or, ℤ, pos, IsTrue, Option, MatchOption, Bool}
 use Rattle.std.specs.List.{All}
-use Rattle.path_problem.specs.declared.graph.Graph.{Graph}
-use Rattle.path_problem.specs.declared.graph.LoopArcs.{LoopArcs}
-use Rattle.path_problem.specs.declared.graph.TheConstants.{LARGEST}
+use Rattle.path_graph.specs.declared.graph.Graph.{Graph}
+use Rattle.path_graph.specs.declared.graph.LoopArcs.{LoopArcs}
+use Rattle.path_graph.specs.declared.graph.TheConstants.{LARGEST}
 use Rattle.path_problem.specs.declared.net.Link.{Link}
-use Rattle.path_problem.specs.Graph.{has, arc_at}
+use Rattle.path_graph.specs.Graph.{has, arc_at}
 use Rattle.path_problem.specs.Need.{Serves, IsNeed, need_tolls}
 use Rattle.path_problem.specs.Whole.{HasLink}
 use Rattle.path_problem.specs.Window.{AreWeights}

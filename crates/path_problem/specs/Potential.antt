@@ -2,10 +2,10 @@
 -- the theory of greatest and least walks; the rest is this project's own.
 use Rattle.std.specs.Prelude.{◌≡◌, ℕ, ◌<◌, ◌≤◌, List, length, slice_index, ℤ, pos, ◌+ℤ◌, ◌≤ℤ◌, ◌<ℤ◌}
 use Rattle.std.specs.List.{All}
-use Rattle.path_problem.specs.declared.graph.Graph.{Graph}
-use Rattle.path_problem.specs.declared.graph.LoopPrices.{LoopPrices}
-use Rattle.path_problem.specs.declared.graph.TheConstants.{LARGEST}
-use Rattle.path_problem.specs.Graph.{arc_at, finish_at, IsWalk, weight_along}
+use Rattle.path_graph.specs.declared.graph.Graph.{Graph}
+use Rattle.path_graph.specs.declared.graph.LoopPrices.{LoopPrices}
+use Rattle.path_graph.specs.declared.graph.TheConstants.{LARGEST}
+use Rattle.path_graph.specs.Graph.{arc_at, finish_at, IsWalk, weight_along}
 use Rattle.path_problem.specs.Weight.{full_weight}
 
 -- the potential of a vertex is at least its finish

@@ -1,6 +1,6 @@
 -- What is worked out for some chosen totals, and how far the turns have come. This project's own.
 use Rattle.std.specs.Prelude.{◌≡◌, ℕ, ◌+◌, ◌*◌, ◌^◌, ◌<◌, ◌≤◌, Bool, true, List, length, slice_index_or, Result, Ok, Err}
-use Rattle.path_problem.specs.declared.graph.Graph.{Graph}
+use Rattle.path_graph.specs.declared.graph.Graph.{Graph}
 use Rattle.path_problem.specs.declared.solution.Amount.{Amount}
 use Rattle.path_problem.specs.declared.solution.Outcome.{Outcome}
 use Rattle.path_problem.specs.declared.solution.Outcome.TheVariants.{Solved, TooLarge}

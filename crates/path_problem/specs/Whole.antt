@@ -1,12 +1,12 @@
 -- All arcs of a graph as links, and values as potentials. This project's own.
 use Rattle.std.specs.Prelude.{◌≡◌, ℕ, ◌<◌, ◌≤◌, ◌^◌, false, List, length, slice_index, slice_index_or, ℤ, pos, ◌≤ℤ◌, ◌<ℤ◌}
 use Rattle.std.specs.List.{All}
-use Rattle.path_problem.specs.declared.graph.Graph.{Graph}
-use Rattle.path_problem.specs.declared.graph.LoopPrices.{LoopPrices}
-use Rattle.path_problem.specs.declared.graph.TheConstants.{LARGEST}
+use Rattle.path_graph.specs.declared.graph.Graph.{Graph}
+use Rattle.path_graph.specs.declared.graph.LoopPrices.{LoopPrices}
+use Rattle.path_graph.specs.declared.graph.TheConstants.{LARGEST}
 use Rattle.path_problem.specs.declared.net.Link.{Link}
-use Rattle.path_problem.specs.Conditions.{IsWithin}
-use Rattle.path_problem.specs.Graph.{arc_at}
+use Rattle.path_graph.specs.Conditions.{IsWithin}
+use Rattle.path_graph.specs.Graph.{arc_at}
 use Rattle.path_problem.specs.Net.{link_at}
 use Rattle.path_problem.specs.Weight.{full_weight}
 use Rattle.path_problem.specs.Window.{weight_limit}

@@ -1,10 +1,10 @@
 -- The weights of some arcs that follow one another, as they are put together loop by loop. This project's own.
 use Rattle.std.specs.Prelude.{◌≡◌, ℕ, ◌+◌, ◌*◌, ◌^◌, ◌<◌, List, length, slice_index_or, if◌then◌else◌, ℤ, pos, ◌+ℤ◌}
-use Rattle.path_problem.specs.declared.graph.Graph.{Graph}
-use Rattle.path_problem.specs.declared.graph.LoopArcs.{LoopArcs}
-use Rattle.path_problem.specs.declared.graph.TheConstants.{LARGEST}
+use Rattle.path_graph.specs.declared.graph.Graph.{Graph}
+use Rattle.path_graph.specs.declared.graph.LoopArcs.{LoopArcs}
+use Rattle.path_graph.specs.declared.graph.TheConstants.{LARGEST}
 use Rattle.path_problem.specs.declared.window.Rates.{Rates}
-use Rattle.path_problem.specs.Graph.{has}
+use Rattle.path_graph.specs.Graph.{has}
 use Rattle.path_problem.specs.Weight.{Toll, weight_under}
 
 -- an amount is added once for each arc that is listed

@@ -1,13 +1,15 @@
 //! The choice of the totals that pay for the back arcs of their loops.
 ghost use Rattle.std.specs.Prelude.{◌≡◌, ℕ, ◌+◌, ◌<◌, ◌≤◌, length, replicate, true, IfOk, if◌then◌else◌, pos, ◌≤ℤ◌};
 ghost use Rattle.path_problem.specs.Choice.{IsChosen, IsTooLarge};
-ghost use Rattle.path_problem.specs.Conditions.{IsGraph, IsBounded};
-ghost use Rattle.path_problem.specs.Graph.{finish_at};
+ghost use Rattle.path_graph.specs.Conditions.{IsGraph, IsBounded};
+ghost use Rattle.path_graph.specs.Graph.{finish_at};
+ghost use Rattle.path_problem.specs.Layout.{IsLayout};
 ghost use Rattle.path_problem.specs.Solution.{TurnsSoFar};
 
-use crate::graph::{Graph, LoopPrices};
+use crate::layout::{Layout, layout_of};
 use crate::path_error::PathError;
 use crate::solution::{Outcome, is_less, solve};
+use path_graph::{Graph, LoopPrices};
 use std::alloc::Global;
 use wx_text::{List, NoMemory};
 
@@ -57,9 +59,25 @@ fn take_turns(alloc: Global, graph: &Graph, chosen: &mut [bool]) -> Result<Outco
     requires chosen { chosen.old ≡ replicate (length graph.now.totals) true }
     ensures { IfOk result (TurnsSoFar graph.now (length graph.now.totals) chosen.new) }
 {
-    let mut best = solve(alloc, graph, chosen)?;
+    let layout = layout_of(alloc, graph)?;
+    take_turns_on(alloc, &layout, chosen)
+}
+
+/// Gives each total its turn, on a graph of which is known what is found once.
+fn take_turns_on(
+    alloc: Global,
+    layout: &Layout<'_>,
+    chosen: &mut [bool],
+) -> Result<Outcome, NoMemory>
+    requires layout { IsLayout layout.now }
+    requires bounded { IsBounded layout.now.graph.now }
+    requires finishes { let g = layout.now.graph.now in (v : ℕ) → v < length g.finish → pos 0 ≤ℤ finish_at g v }
+    requires chosen { chosen.old ≡ replicate (length layout.now.graph.now.totals) true }
+    ensures { let g = layout.now.graph.now in IfOk result (TurnsSoFar g (length g.totals) chosen.new) }
+{
+    let mut best = solve(alloc, layout, chosen)?;
     for total in 0..chosen.len() {
-        best = take_turn(alloc, graph, chosen, total, best)?;
+        best = take_turn(alloc, layout, chosen, total, best)?;
     }
     Ok(best)
 }
@@ -67,20 +85,20 @@ fn take_turns(alloc: Global, graph: &Graph, chosen: &mut [bool]) -> Result<Outco
 /// Gives a total its turn, when those before it had theirs.
 fn take_turn(
     alloc: Global,
-    graph: &Graph,
+    layout: &Layout<'_>,
     chosen: &mut [bool],
     total: usize,
     best: Outcome,
 ) -> Result<Outcome, NoMemory>
-    requires graph { IsGraph graph.now }
-    requires bounded { IsBounded graph.now }
-    requires finishes { (v : ℕ) → v < length graph.now.finish → pos 0 ≤ℤ finish_at graph.now v }
+    requires layout { IsLayout layout.now }
+    requires bounded { IsBounded layout.now.graph.now }
+    requires finishes { let g = layout.now.graph.now in (v : ℕ) → v < length g.finish → pos 0 ≤ℤ finish_at g v }
     requires total { total < length chosen.old }
-    requires turns { TurnsSoFar graph.now total chosen.old best }
-    ensures { IfOk result (TurnsSoFar graph.now (total + 1) chosen.new) }
+    requires turns { TurnsSoFar layout.now.graph.now total chosen.old best }
+    ensures { IfOk result (TurnsSoFar layout.now.graph.now (total + 1) chosen.new) }
 {
     chosen[total] = false;
-    let without = solve(alloc, graph, chosen)?;
+    let without = solve(alloc, layout, chosen)?;
     let is_given_up = is_less(&without, &best);
     chosen[total] = !is_given_up;
     Ok(one_of(is_given_up, without, best))

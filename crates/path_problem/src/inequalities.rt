@@ -1,20 +1,20 @@
 ghost use Rattle.std.specs.Prelude.{◌≡◌, ℕ, ◌+◌, ◌^◌, ◌<◌, ◌≤◌, ◌↔◌, length, IsOk, MatchOption};
 ghost use Rattle.std.specs.List.{All};
-ghost use Rattle.path_problem.specs.Conditions.{IsGraph, IsBounded, HasPrices, AreBounded, IsWithin};
+ghost use Rattle.path_graph.specs.Conditions.{IsGraph, IsBounded, HasPrices, AreBounded, IsWithin};
 ghost use Rattle.path_problem.specs.Potential.{Cover, CoversVertex, IsBadVertex, IsBadArc, IsFirstBadArc, AreCovered};
 ghost use Rattle.path_problem.specs.Weight.{price_tolls};
 ghost use Rattle.path_problem.specs.Window.{AreWeights, weight_limit};
 
 use crate::bad_path::BadPath;
-use crate::graph::{Graph, LARGEST, LoopPrices};
 use crate::window::full_weights;
+use path_graph::{Graph, LARGEST, LoopPrices};
 
 /// How many arcs are looked at together.
-const WINDOW: usize = 1024;
+const WINDOW: usize = 8192;
 
 /// Whether potentials meet the inequality of each vertex and each arc.
 ///
-/// The lists of all loops are gone through once for every 1,024 arcs.
+/// The lists of all loops are gone through once for every 8,192 arcs.
 pub fn check(graph: &Graph, prices: &LoopPrices, potentials: &[u64]) -> Result<(), BadPath>
     requires graph { IsGraph graph.now }
     requires bounded { IsBounded graph.now }

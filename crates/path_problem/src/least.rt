@@ -1,13 +1,13 @@
 //! The least price of back links at which no closed walk gains.
 ghost use Rattle.std.specs.Prelude.{◌≡◌, ℕ, ◌+◌, ◌^◌, ◌<◌, ◌≤◌, length, IfOk, MatchOption, pos, ◌<ℤ◌};
 ghost use Rattle.std.specs.List.{All};
-ghost use Rattle.path_problem.specs.Conditions.{IsWithin};
-ghost use Rattle.path_problem.specs.Graph.{weight_along};
+ghost use Rattle.path_graph.specs.Conditions.{IsWithin};
+ghost use Rattle.path_graph.specs.Graph.{weight_along};
 ghost use Rattle.path_problem.specs.Least.{AreSmall, IsPart, GainsBelow, IsLeastPrice, PaysBelow, IsNextPrice};
 ghost use Rattle.path_problem.specs.Least.{plain_weight, backs_of};
 
-use crate::graph::LARGEST;
 use crate::net::{Link, Settlement, settle};
+use path_graph::LARGEST;
 use std::alloc::Global;
 use wx_text::NoMemory;
 

@@ -3,17 +3,14 @@
 #![tactic(auto)]
 
 mod bad_path;
-mod bounds;
 mod chain;
 mod choice;
-mod conditions;
-mod graph;
 mod inequalities;
 mod laws;
+mod layout;
 mod least;
 mod needs;
 mod net;
-mod order;
 mod part;
 mod path_error;
 mod potential;
@@ -21,10 +18,7 @@ mod solution;
 mod window;
 
 pub use bad_path::BadPath;
-pub use bounds::{fit, has_natural_finishes, is_bounded};
 pub use choice::{Choice, choose};
-pub use conditions::is_graph;
-pub use graph::{Arc, Graph, LARGEST, LoopArcs, LoopPrices};
 pub use inequalities::check;
 pub use laws::prices_bound_walks;
 pub use needs::prices;

@@ -2,15 +2,17 @@
 ghost use Rattle.std.specs.Prelude.{◌≡◌, ℕ, ◌+◌, ◌<◌, ◌≤◌, [], List, length, map, if◌then◌else◌, IfOk};
 ghost use Rattle.std.specs.List.{All, zip};
 ghost use Rattle.std.specs.Option.{ForSome};
-ghost use Rattle.path_problem.specs.Conditions.{IsGraph, IsBounded, HasPrices, AreBounded};
+ghost use Rattle.path_graph.specs.Conditions.{IsGraph, IsBounded, HasPrices, AreBounded};
+ghost use Rattle.path_problem.specs.Layout.{IsLayout};
 ghost use Rattle.path_problem.specs.Potential.{NoClosedGain};
 ghost use Rattle.path_problem.specs.Need.{HasNeeds, IsLoopLarge, is_chosen, loop_price, AreAllNeeds};
 ghost use Rattle.path_problem.specs.Need.{AreTotalPrices, IsRaised};
 
-use crate::graph::{Graph, LoopArcs, LoopPrices};
+use crate::layout::{Layout, layout_of};
 use crate::part::need_of_loop;
 use crate::path_error::PathError;
 use crate::window::{Rates, add_toll, own_weights};
+use path_graph::{Graph, LoopArcs, LoopPrices};
 use std::alloc::Global;
 use wx_text::{List, NoMemory};
 
@@ -19,7 +21,7 @@ use wx_text::{List, NoMemory};
 /// A loop needs the least number for which no closed walk inside it gains; inner loops come first, and pay for what they
 /// allow each time they are entered. `LoopLarge` names the first loop that no number up to `LARGEST` serves.
 ///
-/// All arcs are gone through once for each loop, and those inside it in a few rounds for each number that is tried.
+/// For each loop the arcs of its members are gone through, in a few rounds for each number that is tried.
 pub fn prices(alloc: Global, graph: &Graph, chosen: &[bool]) -> Result<LoopPrices, PathError>
     requires graph { IsGraph graph.now }
     requires bounded { IsBounded graph.now }
@@ -31,28 +33,50 @@ pub fn prices(alloc: Global, graph: &Graph, chosen: &[bool]) -> Result<LoopPrice
     ensures large { (n : ℕ) → result ≡ Err (PathError.LoopLarge n) → IsLoopLarge graph.now chosen.now n }
     ensures vertex { (n : ℕ) → result ≡ Err (PathError.VertexLarge n) → ⊥ }
 {
-    let needs = needs_of(alloc, graph, chosen)?;
-    let loops = loop_prices(alloc, graph, chosen, needs.as_slice())?;
-    let totals = total_prices(alloc, graph, chosen, needs.as_slice())?;
+    let layout = layout_of(alloc, graph)?;
+    prices_on(alloc, &layout, chosen)
+}
+
+/// The prices on a graph of which is known what is found once.
+pub(crate) fn prices_on(
+    alloc: Global,
+    layout: &Layout<'_>,
+    chosen: &[bool],
+) -> Result<LoopPrices, PathError>
+    requires layout { IsLayout layout.now }
+    requires bounded { IsBounded layout.now.graph.now }
+    requires chosen { length chosen.now ≡ length layout.now.graph.now.totals }
+    ensures ok { IfOk result (λ prices. HasNeeds layout.now.graph.now chosen.now prices) }
+    ensures priced { IfOk result (HasPrices layout.now.graph.now) }
+    ensures small { IfOk result AreBounded }
+    ensures closed { IfOk result (NoClosedGain layout.now.graph.now) }
+    ensures large { (n : ℕ) → result ≡ Err (PathError.LoopLarge n)
+        → IsLoopLarge layout.now.graph.now chosen.now n }
+    ensures vertex { (n : ℕ) → result ≡ Err (PathError.VertexLarge n) → ⊥ }
+{
+    let needs = needs_of(alloc, layout, chosen)?;
+    let loops = loop_prices(alloc, layout.graph, chosen, needs.as_slice())?;
+    let totals = total_prices(alloc, layout.graph, chosen, needs.as_slice())?;
     Ok(LoopPrices { loops, totals })
 }
 
 /// The needs of all loops.
-fn needs_of(alloc: Global, graph: &Graph, chosen: &[bool]) -> Result<Vec<u64>, PathError>
-    requires graph { IsGraph graph.now }
-    requires bounded { IsBounded graph.now }
-    requires chosen { length chosen.now ≡ length graph.now.totals }
-    ensures ok { IfOk result (λ needs. AreAllNeeds graph.now chosen.now needs.items) }
-    ensures large { (n : ℕ) → result ≡ Err (PathError.LoopLarge n) → IsLoopLarge graph.now chosen.now n }
+fn needs_of(alloc: Global, layout: &Layout<'_>, chosen: &[bool]) -> Result<Vec<u64>, PathError>
+    requires layout { IsLayout layout.now }
+    requires bounded { IsBounded layout.now.graph.now }
+    requires chosen { length chosen.now ≡ length layout.now.graph.now.totals }
+    ensures ok { IfOk result (λ needs. AreAllNeeds layout.now.graph.now chosen.now needs.items) }
+    ensures large { (n : ℕ) → result ≡ Err (PathError.LoopLarge n)
+        → IsLoopLarge layout.now.graph.now chosen.now n }
     ensures vertex { (n : ℕ) → result ≡ Err (PathError.VertexLarge n) → ⊥ }
 {
-    let count = graph.arcs.len();
+    let count = layout.graph.arcs.len();
     let mut weights = vec![in alloc; 0i128; count]?;
     let mut stamps = vec![in alloc; 0u64; count]?;
-    let mut places = vec![in alloc; 0usize; graph.finish.len()]?;
+    let mut places = vec![in alloc; 0usize; layout.graph.finish.len()]?;
     needs_within(
         alloc,
-        graph,
+        layout,
         chosen,
         weights.as_mut_slice(),
         stamps.as_mut_slice(),
@@ -63,26 +87,28 @@ fn needs_of(alloc: Global, graph: &Graph, chosen: &[bool]) -> Result<Vec<u64>, P
 /// The needs of all loops, for which room is given: weights and stamps of arcs, and places of vertices.
 fn needs_within(
     alloc: Global,
-    graph: &Graph,
+    layout: &Layout<'_>,
     chosen: &[bool],
     weights: &mut [i128],
     stamps: &mut [u64],
     places: &mut [usize],
 ) -> Result<Vec<u64>, PathError>
-    requires graph { IsGraph graph.now }
-    requires bounded { IsBounded graph.now }
-    requires chosen { length chosen.now ≡ length graph.now.totals }
-    requires weights { length weights.old ≡ length graph.now.arcs }
-    requires stamps { length stamps.old ≡ length graph.now.arcs }
-    requires places { length places.old ≡ length graph.now.finish }
-    ensures ok { IfOk result (λ needs. AreAllNeeds graph.now chosen.now needs.items) }
-    ensures large { (n : ℕ) → result ≡ Err (PathError.LoopLarge n) → IsLoopLarge graph.now chosen.now n }
+    requires layout { IsLayout layout.now }
+    requires bounded { IsBounded layout.now.graph.now }
+    requires chosen { length chosen.now ≡ length layout.now.graph.now.totals }
+    requires weights { length weights.old ≡ length layout.now.graph.now.arcs }
+    requires stamps { length stamps.old ≡ length layout.now.graph.now.arcs }
+    requires places { length places.old ≡ length layout.now.graph.now.finish }
+    ensures ok { IfOk result (λ needs. AreAllNeeds layout.now.graph.now chosen.now needs.items) }
+    ensures large { (n : ℕ) → result ≡ Err (PathError.LoopLarge n)
+        → IsLoopLarge layout.now.graph.now chosen.now n }
     ensures vertex { (n : ℕ) → result ≡ Err (PathError.VertexLarge n) → ⊥ }
 {
+    let graph = layout.graph;
     own_weights(graph, 0, weights, stamps);
     let mut needs = Vec::with_capacity(alloc, graph.loops.len())?;
     for number in 0..graph.loops.len() {
-        match need_of_loop(alloc, graph, number, weights, places)? {
+        match need_of_loop(alloc, layout, number, weights, places)? {
             Some(need) => {
                 let arcs = &graph.loops.as_slice()[number];
                 let rates = Rates {

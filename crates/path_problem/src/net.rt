@@ -4,7 +4,7 @@ ghost use Rattle.std.specs.Prelude.{IsTrue, IsFalse, IfOk, MatchOption};
 ghost use Rattle.std.specs.Prelude.{if◌then◌else◌, ℤ, pos, ◌+ℤ◌, ◌-ℤ◌, FitsSigned};
 ghost use Rattle.std.specs.Int.{w128};
 ghost use Rattle.std.specs.List.{All};
-ghost use Rattle.path_problem.specs.Conditions.{IsWithin};
+ghost use Rattle.path_graph.specs.Conditions.{IsWithin};
 ghost use Rattle.path_problem.specs.Net.{link_at, link_weight, AreLinks, AreLabels, gap};
 ghost use Rattle.path_problem.specs.Net.{IsSettled, HasSettled, IsShortGain, SettlesOrGains};
 ghost use Rattle.path_problem.specs.Window.{weight_limit};

@@ -1,22 +1,26 @@
 //! The part of a graph inside a loop, and the least number that serves it.
 ghost use Rattle.std.specs.Prelude.{◌≡◌, ℕ, ◌+◌, ◌^◌, ◌<◌, ◌≤◌, length, IfOk, IfSome, MatchOption, IsTrue};
 ghost use Rattle.std.specs.List.{All};
-ghost use Rattle.path_problem.specs.Conditions.{IsGraph, IsBounded, IsWithin};
-ghost use Rattle.path_problem.specs.Graph.{has, arc_at, loop_at};
+ghost use Rattle.path_graph.specs.Conditions.{IsBounded, IsWithin};
+ghost use Rattle.path_graph.specs.Graph.{has, arc_at, loop_at};
+ghost use Rattle.path_problem.specs.Layout.{IsLayout};
 ghost use Rattle.path_problem.specs.Part.{IsPlace, AreNames, IsInnerAt, AreInner, NeedGives};
+ghost use Rattle.path_graph.specs.Sources.{HasArcsOf};
 ghost use Rattle.path_problem.specs.Window.{weight_limit};
 
-use crate::graph::{Graph, LoopArcs};
+use crate::layout::{Layout, arcs_of, in_order};
 use crate::least::least_price;
 use crate::net::Link;
+use path_graph::number_at;
 use std::alloc::Global;
 use wx_text::NoMemory;
 
 /// What the links of a loop are made of.
 #[derive(Clone, Copy)]
 struct Part<'a> {
-    graph: &'a Graph,
-    arcs: &'a LoopArcs,
+    layout: &'a Layout<'a>,
+    /// The number of the loop.
+    number: usize,
     /// The weights of all arcs of the graph.
     weights: &'a [i128],
     /// The members of the loop, each once.
@@ -59,41 +63,60 @@ fn place_of(names: &[usize], places: &[usize], vertex: usize) -> Option<usize>
     }
 }
 
+/// Whether the arc with a number is a back arc of the loop.
+fn is_back(part: &Part<'_>, number: usize) -> bool
+    requires layout { IsLayout part.now.layout.now }
+    requires loops { part.now.number < length part.now.layout.now.graph.now.loops }
+    requires few { length part.now.layout.now.graph.now.loops ≤ 2 ^ 16 }
+    ensures { result ≡ has (loop_at part.now.layout.now.graph.now part.now.number).back number }
+{
+    number_at(part.layout.owners.as_slice(), number) == part.number + 1
+}
+
 /// The arc with a number as a link, if it is inside the loop.
 fn inner_link(part: &Part<'_>, number: usize) -> Option<Link>
-    requires graph { IsGraph part.now.graph.now }
-    requires number { number < length part.now.graph.now.arcs }
-    requires weights { length part.now.weights.now ≡ length part.now.graph.now.arcs }
-    requires places { length part.now.places.now ≡ length part.now.graph.now.finish }
-    requires names { AreNames part.now.arcs.now.members part.now.names.now part.now.places.now }
-    ensures { let p = part.now in let arc = arc_at p.graph.now number in MatchOption result
-        (IsTrue (has p.arcs.now.members arc.from) → IsTrue (has p.arcs.now.members arc.to) → ⊥)
-        (IsInnerAt p.graph.now p.arcs.now p.weights.now p.names.now p.places.now number) }
+    requires layout { IsLayout part.now.layout.now }
+    requires number { number < length part.now.layout.now.graph.now.arcs }
+    requires loops { part.now.number < length part.now.layout.now.graph.now.loops }
+    requires few { length part.now.layout.now.graph.now.loops ≤ 2 ^ 16 }
+    requires weights { length part.now.weights.now ≡ length part.now.layout.now.graph.now.arcs }
+    requires places { length part.now.places.now ≡ length part.now.layout.now.graph.now.finish }
+    requires names { let p = part.now in
+        AreNames (loop_at p.layout.now.graph.now p.number).members p.names.now p.places.now }
+    ensures { let p = part.now in let g = p.layout.now.graph.now in let l = loop_at g p.number in MatchOption result
+        (IsTrue (has l.members (arc_at g number).from) → IsTrue (has l.members (arc_at g number).to) → ⊥)
+        (IsInnerAt g l p.weights.now p.names.now p.places.now number) }
 {
-    let arc = &part.graph.arcs.as_slice()[number];
+    let arc = &part.layout.graph.arcs.as_slice()[number];
     let from = place_of(part.names, part.places, arc.from as usize)?;
     let to = place_of(part.names, part.places, arc.to as usize)?;
     Some(Link {
         from,
         to,
         weight: part.weights[number],
-        back: part.arcs.back.as_slice().contains(&(number as u64)),
+        back: is_back(part, number),
         arc: number,
     })
 }
 
-/// All arcs inside the loop as links.
-fn inner_links(alloc: Global, part: &Part<'_>) -> Result<Vec<Link>, NoMemory>
-    requires graph { IsGraph part.now.graph.now }
-    requires weights { length part.now.weights.now ≡ length part.now.graph.now.arcs }
-    requires places { length part.now.places.now ≡ length part.now.graph.now.finish }
-    requires names { AreNames part.now.arcs.now.members part.now.names.now part.now.places.now }
-    ensures { let p = part.now in IfOk result (λ links.
-        AreInner p.graph.now p.arcs.now p.weights.now p.names.now p.places.now links.items) }
+/// Some arcs as links, if they are inside the loop.
+fn inner_links(alloc: Global, part: &Part<'_>, arcs: &[usize]) -> Result<Vec<Link>, NoMemory>
+    requires layout { IsLayout part.now.layout.now }
+    requires loops { part.now.number < length part.now.layout.now.graph.now.loops }
+    requires few { length part.now.layout.now.graph.now.loops ≤ 2 ^ 16 }
+    requires weights { length part.now.weights.now ≡ length part.now.layout.now.graph.now.arcs }
+    requires places { length part.now.places.now ≡ length part.now.layout.now.graph.now.finish }
+    requires names { let p = part.now in
+        AreNames (loop_at p.layout.now.graph.now p.number).members p.names.now p.places.now }
+    requires arcs { All (λ a. a < length part.now.layout.now.graph.now.arcs) arcs.now }
+    requires each { let g = part.now.layout.now.graph.now in
+        HasArcsOf g (loop_at g part.now.number).members arcs.now }
+    ensures { let p = part.now in let g = p.layout.now.graph.now in IfOk result (λ links.
+        AreInner g (loop_at g p.number) p.weights.now p.names.now p.places.now links.items) }
 {
     let mut links = Vec::new(alloc);
-    for number in 0..part.graph.arcs.len() {
-        if let Some(link) = inner_link(part, number) {
+    for number in arcs {
+        if let Some(link) = inner_link(part, *number) {
             links.push(link)?;
         }
     }
@@ -104,29 +127,31 @@ fn inner_links(alloc: Global, part: &Part<'_>) -> Result<Vec<Link>, NoMemory>
 /// the needs of the loops before it. What is in `places` before does not matter.
 pub(crate) fn need_of_loop(
     alloc: Global,
-    graph: &Graph,
+    layout: &Layout<'_>,
     number: usize,
     weights: &[i128],
     places: &mut [usize],
 ) -> Result<Option<u64>, NoMemory>
-    requires graph { IsGraph graph.now }
-    requires bounded { IsBounded graph.now }
-    requires number { number < length graph.now.loops }
-    requires weights { length weights.now ≡ length graph.now.arcs }
+    requires layout { IsLayout layout.now }
+    requires bounded { IsBounded layout.now.graph.now }
+    requires number { number < length layout.now.graph.now.loops }
+    requires weights { length weights.now ≡ length layout.now.graph.now.arcs }
     requires small { All (IsWithin (weight_limit number)) weights.now }
-    requires places { length places.old ≡ length graph.now.finish }
-    ensures { IfOk result (NeedGives graph.now number weights.now) }
+    requires places { length places.old ≡ length layout.now.graph.now.finish }
+    ensures { IfOk result (NeedGives layout.now.graph.now number weights.now) }
 {
-    let arcs = &graph.loops.as_slice()[number];
-    let names = place_members(alloc, arcs.members.as_slice(), places)?;
+    let arcs = &layout.graph.loops.as_slice()[number];
+    let members = in_order(alloc, layout, arcs.members.as_slice())?;
+    let leaving = arcs_of(alloc, layout, members.as_slice())?;
+    let names = place_members(alloc, members.as_slice(), places)?;
     let part = Part {
-        graph,
-        arcs,
+        layout,
+        number,
         weights,
         names: names.as_slice(),
         places,
     };
-    let links = inner_links(alloc, &part)?;
+    let links = inner_links(alloc, &part, leaving.as_slice())?;
     let start = vec![in alloc; 0i128; names.len()]?;
     least_price(alloc, links.as_slice(), start.as_slice())
 }

@@ -1,16 +1,17 @@
 //! The most that walks from each vertex come to.
 ghost use Rattle.std.specs.Prelude.{◌≡◌, ℕ, ◌+◌, ◌<◌, ◌≤◌, false, length, slice_index_or, IfOk, pos, ◌≤ℤ◌};
 ghost use Rattle.std.specs.List.{All, Contains};
-ghost use Rattle.path_problem.specs.Conditions.{IsGraph, IsBounded, HasPrices, AreBounded};
-ghost use Rattle.path_problem.specs.Graph.{arc_at, finish_at};
+ghost use Rattle.path_graph.specs.Conditions.{IsGraph, IsBounded, HasPrices, AreBounded};
+ghost use Rattle.path_graph.specs.Graph.{arc_at, finish_at};
+ghost use Rattle.path_problem.specs.Layout.{IsLayout};
 ghost use Rattle.path_problem.specs.Potential.{ArePotentials, IsVertexLarge, NoClosedGain};
 ghost use Rattle.path_problem.specs.Whole.{AreArcs, AreNumbers, IsFirstAbove};
 
-use crate::graph::{Graph, LARGEST, LoopPrices};
+use crate::layout::{Layout, arcs_in_order, layout_of};
 use crate::net::{Link, Settlement, settle};
-use crate::order::arcs_in_order;
 use crate::path_error::PathError;
 use crate::window::full_weights;
+use path_graph::{Graph, LARGEST, LoopPrices};
 use std::alloc::Global;
 use wx_text::NoMemory;
 
@@ -28,28 +29,53 @@ pub fn potentials(alloc: Global, graph: &Graph, prices: &LoopPrices) -> Result<V
     ensures large { (v : ℕ) → result ≡ Err (PathError.VertexLarge v) → IsVertexLarge graph.now prices.now v }
     ensures never { (n : ℕ) → result ≡ Err (PathError.LoopLarge n) → ⊥ }
 {
-    let links = priced_links(alloc, graph, prices)?;
-    match settle(alloc, links.as_slice(), 0, graph.finish.as_slice())? {
+    let layout = layout_of(alloc, graph)?;
+    potentials_on(alloc, &layout, prices)
+}
+
+/// The potentials on a graph of which is known what is found once.
+pub(crate) fn potentials_on(
+    alloc: Global,
+    layout: &Layout<'_>,
+    prices: &LoopPrices,
+) -> Result<Vec<u64>, PathError>
+    requires layout { IsLayout layout.now }
+    requires bounded { IsBounded layout.now.graph.now }
+    requires prices { HasPrices layout.now.graph.now prices.now }
+    requires few { AreBounded prices.now }
+    requires closed { NoClosedGain layout.now.graph.now prices.now }
+    requires finishes { let g = layout.now.graph.now in (v : ℕ) → v < length g.finish → pos 0 ≤ℤ finish_at g v }
+    ensures ok { IfOk result (λ potentials. ArePotentials layout.now.graph.now prices.now potentials.items) }
+    ensures large { (v : ℕ) → result ≡ Err (PathError.VertexLarge v)
+        → IsVertexLarge layout.now.graph.now prices.now v }
+    ensures never { (n : ℕ) → result ≡ Err (PathError.LoopLarge n) → ⊥ }
+{
+    let links = priced_links(alloc, layout, prices)?;
+    match settle(alloc, links.as_slice(), 0, layout.graph.finish.as_slice())? {
         Settlement::Settled(values) => numbers(alloc, values.as_slice()),
         Settlement::Gains(_) => unreachable!(),
     }
 }
 
 /// All arcs as links with their full weights, in an order in which few rounds settle labels.
-fn priced_links(alloc: Global, graph: &Graph, prices: &LoopPrices) -> Result<Vec<Link>, NoMemory>
-    requires graph { IsGraph graph.now }
-    requires bounded { IsBounded graph.now }
-    requires prices { HasPrices graph.now prices.now }
+fn priced_links(
+    alloc: Global,
+    layout: &Layout<'_>,
+    prices: &LoopPrices,
+) -> Result<Vec<Link>, NoMemory>
+    requires layout { IsLayout layout.now }
+    requires bounded { IsBounded layout.now.graph.now }
+    requires prices { HasPrices layout.now.graph.now prices.now }
     requires few { AreBounded prices.now }
-    ensures { IfOk result (λ links. AreArcs graph.now prices.now links.items) }
+    ensures { IfOk result (λ links. AreArcs layout.now.graph.now prices.now links.items) }
 {
-    let count = graph.arcs.len();
+    let count = layout.graph.arcs.len();
     let mut weights = vec![in alloc; 0i128; count]?;
     let mut stamps = vec![in alloc; 0u64; count]?;
-    let order = arcs_in_order(alloc, graph)?;
+    let order = arcs_in_order(alloc, layout)?;
     links_of(
         alloc,
-        graph,
+        layout.graph,
         prices,
         order.as_slice(),
         weights.as_mut_slice(),

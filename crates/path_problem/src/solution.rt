@@ -2,16 +2,18 @@
 ghost use Rattle.std.specs.Prelude.{◌≡◌, ℕ, ◌+◌, ◌*◌, ◌/◌, ◌^◌, ◌<◌, ◌≤◌, ◌↔◌, length, slice_index, IfOk, IsTrue};
 ghost use Rattle.std.specs.Prelude.{pos, ◌≤ℤ◌};
 ghost use Rattle.path_problem.specs.Choice.{IsLess, origin_worth as worth_of_origin, path_value};
-ghost use Rattle.path_problem.specs.Conditions.{IsGraph, IsBounded, HasPrices, AreBounded};
-ghost use Rattle.path_problem.specs.Graph.{finish_at};
+ghost use Rattle.path_graph.specs.Conditions.{IsGraph, IsBounded, HasPrices, AreBounded};
+ghost use Rattle.path_graph.specs.Graph.{finish_at};
+ghost use Rattle.path_problem.specs.Layout.{IsLayout};
 ghost use Rattle.path_problem.specs.Need.{HasNeeds};
 ghost use Rattle.path_problem.specs.Potential.{NoClosedGain};
 ghost use Rattle.path_problem.specs.Solution.{number, IsOutcome, worth_of};
 
-use crate::graph::{Graph, LARGEST, LoopPrices};
-use crate::needs::prices;
+use crate::layout::Layout;
+use crate::needs::prices_on;
 use crate::path_error::PathError;
-use crate::potential::potentials;
+use crate::potential::potentials_on;
+use path_graph::{Graph, LARGEST, LoopPrices};
 use std::alloc::Global;
 use wx_text::NoMemory;
 
@@ -131,15 +133,19 @@ fn is_lower(amount: Amount, other: Amount) -> bool
 }
 
 /// What some chosen totals come to.
-pub(crate) fn solve(alloc: Global, graph: &Graph, chosen: &[bool]) -> Result<Outcome, NoMemory>
-    requires graph { IsGraph graph.now }
-    requires bounded { IsBounded graph.now }
-    requires finishes { (v : ℕ) → v < length graph.now.finish → pos 0 ≤ℤ finish_at graph.now v }
-    requires chosen { length chosen.now ≡ length graph.now.totals }
-    ensures { IfOk result (IsOutcome graph.now chosen.now) }
+pub(crate) fn solve(
+    alloc: Global,
+    layout: &Layout<'_>,
+    chosen: &[bool],
+) -> Result<Outcome, NoMemory>
+    requires layout { IsLayout layout.now }
+    requires bounded { IsBounded layout.now.graph.now }
+    requires finishes { let g = layout.now.graph.now in (v : ℕ) → v < length g.finish → pos 0 ≤ℤ finish_at g v }
+    requires chosen { length chosen.now ≡ length layout.now.graph.now.totals }
+    ensures { IfOk result (IsOutcome layout.now.graph.now chosen.now) }
 {
-    match prices(alloc, graph, chosen) {
-        Ok(prices) => solve_at(alloc, graph, chosen, prices),
+    match prices_on(alloc, layout, chosen) {
+        Ok(prices) => solve_at(alloc, layout, chosen, prices),
         Err(PathError::NoMemory) => Err(NoMemory),
         Err(refusal) => Ok(Outcome::TooLarge(refusal)),
     }
@@ -148,22 +154,22 @@ pub(crate) fn solve(alloc: Global, graph: &Graph, chosen: &[bool]) -> Result<Out
 /// What some chosen totals come to at their prices.
 fn solve_at(
     alloc: Global,
-    graph: &Graph,
+    layout: &Layout<'_>,
     chosen: &[bool],
     prices: LoopPrices,
 ) -> Result<Outcome, NoMemory>
-    requires graph { IsGraph graph.now }
-    requires bounded { IsBounded graph.now }
-    requires finishes { (v : ℕ) → v < length graph.now.finish → pos 0 ≤ℤ finish_at graph.now v }
-    requires needs { HasNeeds graph.now chosen.now prices }
-    requires prices { HasPrices graph.now prices }
+    requires layout { IsLayout layout.now }
+    requires bounded { IsBounded layout.now.graph.now }
+    requires finishes { let g = layout.now.graph.now in (v : ℕ) → v < length g.finish → pos 0 ≤ℤ finish_at g v }
+    requires needs { HasNeeds layout.now.graph.now chosen.now prices }
+    requires prices { HasPrices layout.now.graph.now prices }
     requires few { AreBounded prices }
-    requires closed { NoClosedGain graph.now prices }
-    ensures { IfOk result (IsOutcome graph.now chosen.now) }
+    requires closed { NoClosedGain layout.now.graph.now prices }
+    ensures { IfOk result (IsOutcome layout.now.graph.now chosen.now) }
 {
-    match potentials(alloc, graph, &prices) {
+    match potentials_on(alloc, layout, &prices) {
         Ok(potentials) => {
-            let value = value_of(graph, &prices, potentials.as_slice());
+            let value = value_of(layout.graph, &prices, potentials.as_slice());
             Ok(Outcome::Solved(Solution {
                 prices,
                 potentials,

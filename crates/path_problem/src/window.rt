@@ -3,12 +3,12 @@ ghost use Rattle.std.specs.Prelude.{◌≡◌, ℕ, ◌+◌, ◌*◌, ◌^◌, �
 ghost use Rattle.std.specs.Option.{ForSome};
 ghost use Rattle.std.specs.Int.{w128};
 ghost use Rattle.std.specs.List.{All};
-ghost use Rattle.path_problem.specs.Conditions.{IsGraph, IsBounded, HasPrices, AreBounded, IsWithin};
+ghost use Rattle.path_graph.specs.Conditions.{IsGraph, IsBounded, HasPrices, AreBounded, IsWithin};
 ghost use Rattle.path_problem.specs.Weight.{Toll, price_tolls};
 ghost use Rattle.path_problem.specs.Weight.{total_price as total_price_of};
 ghost use Rattle.path_problem.specs.Window.{IsAdded, AreWeights, toll_of, weight_limit};
 
-use crate::graph::{Graph, LARGEST, LoopArcs, LoopPrices};
+use path_graph::{Graph, LARGEST, LoopArcs, LoopPrices};
 
 /// Adds an amount at each of some arcs, once for each that is listed, however often. A stamp tells which have it
 /// already.

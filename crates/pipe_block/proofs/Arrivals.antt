@@ -61,7 +61,7 @@ module _ {A : Type 0} (e : A → A → Bool) (itself : (x : A) → e x x ≡ tru
     | inr g ↦ elim (cases_lt j i) [ inl l ↦ absurd (apart j i x at' at l) | inr g' ↦ omega arith ]
   ]
 
-front : {A : Type 0} (xs ys : List A) (p : ℕ) → p < length xs → slice_get (xs ++ ys) p ≡ slice_get xs p
+pub front : {A : Type 0} (xs ys : List A) (p : ℕ) → p < length xs → slice_get (xs ++ ys) p ≡ slice_get xs p
 front [] ys p h = absurd (omega arith)
 front (x ∷ xs) ys zero h = refl
 front (x ∷ xs) ys (suc p) h = front xs ys p (omega arith)

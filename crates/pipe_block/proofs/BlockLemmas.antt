@@ -1,19 +1,22 @@
 -- The events of a block of a function stand in the order of their instructions.
-use Rattle.std.proofs.Common.{◌≡◌, ℕ, zero, suc, ◌+◌, ◌≤◌, Bool, true, false, List, [], ◌∷◌, ◌++◌, length, Option, Some, None, refl, arith, add-one, if◌then◌else◌}
+use Rattle.std.proofs.Common.{◌≡◌, ℕ, zero, suc, ◌+◌, ◌≤◌, Bool, true, false, List, [], ◌∷◌, ◌++◌, length, slice_get, All, Option, Some, None, refl, subst, arith, add-one, if◌then◌else◌}
 use Rattle.std.specs.Bool.{⊤}
 use Rattle.std.specs.Option.{option_map_or}
+use Rattle.std.proofs.lemmas.Option.{get_or_from_slice_get, slice_get_within}
 use Rattle.wx_base.specs.declared.image.Image.{Image}
 use Rattle.wx_base.specs.declared.machine.Machine.{Machine}
 use Rattle.wx_base.specs.declared.machine.UnitKind.{UnitKind}
 use Rattle.wx_base.specs.declared.machine.UnitKind.TheVariants.{Alu, Mul, Mem}
 use Rattle.wx_base.specs.Functions.{code_at}
 use Rattle.wx_base.specs.Instruction.{unit_of}
+use Rattle.flow_block.specs.declared.block.Block.{Block}
 use Rattle.flow_block.specs.declared.block.Slot.{Slot}
 use Rattle.flow_block.specs.declared.block.SlotKind.TheVariants.{Fetch}
-use Rattle.flow_block.specs.Blocks.{has_line, line_at, unit_slots, fetch_slots, slots_at, slots_of, addresses_from}
+use Rattle.flow_block.specs.Blocks.{AreBlocks, IsBlock, has_line, line_at, unit_slots, fetch_slots, slots_at, slots_of, addresses_from}
 use Rattle.flow_block.specs.Sites.{behind}
+use Rattle.flow_graph.specs.declared.program.Function.{Function}
 use Rattle.pipe_block.specs.Events.{Ascends}
-use Rattle.pipe_block.specs.Laws.{BlocksAreTimed}
+use Rattle.pipe_block.specs.Laws.{BlocksAreTimed, NodesAreTimed}
 use Rattle.pipe_block.proofs.ValidLemmas.{all_valid}
 
 -- all events are of the instruction at a place
@@ -77,3 +80,13 @@ timed image facts machine entry block b = record {
   few = rw b.slots b.count.few;
   ascending = rw b.slots (events_ascend image machine block.start (length block.insns)).0;
 }
+
+all_at : {X : Type 0} (P : X → Type 0) (xs : List X) (k : ℕ) (x : X) → All P xs → slice_get xs k ≡ Some x → P x
+all_at P xs k x all e = subst P (get_or_from_slice_get xs k x x e) (all k x (slice_get_within xs k x e))
+
+pub node_timed : NodesAreTimed
+node_timed machine u number block built of =
+    let b = built.built in
+    let f = of.function in
+    let blocks = all_at (λ (f : Function). AreBlocks b.image b.facts machine f.entry f.blocks) u.program.functions of.node.function f b.is.blocks of.function_stands in
+    timed b.image b.facts machine f.entry block (all_at (λ (x : Block). IsBlock b.image b.facts machine f.entry x) f.blocks of.node.block block blocks.each of.block_stands)

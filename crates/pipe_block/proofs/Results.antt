@@ -18,13 +18,13 @@ use Rattle.pipe_block.specs.declared.diagrams.BlockExit.{BlockExit}
 use Rattle.pipe_block.specs.declared.diagrams.Outcome.{Outcome}
 use Rattle.pipe_block.specs.declared.row.Row.{Row}
 use Rattle.pipe_block.specs.declared.row.Bundle.{Bundle}
-use Rattle.pipe_block.specs.Events.{entries_of}
-use Rattle.pipe_block.specs.Times.{times_at, AreTimes, IsDiagram}
+use Rattle.pipe_block.specs.Events.{IsTimed, entries_of}
+use Rattle.pipe_block.specs.Times.{times_at, AreDiagrams, AreTimes, IsDiagram}
 use Rattle.pipe_block.specs.Exits.{exit_row_of, AreExits}
 use Rattle.pipe_block.specs.Outcomes.{outcome_of, AreOutcomes}
 use Rattle.pipe_block.specs.Rows.{row_at, GivesRows, Leads, LeadsTo, IsColumn, AddsGiven}
 use Rattle.pipe_block.specs.Walks.{row_from}
-use Rattle.std.proofs.lemmas.List.Elements.{All-cons, All-nil}
+use Rattle.std.proofs.lemmas.List.Elements.{All-cons, All-nil, All-weaker}
 
 -- a vector behind instructions has 35 slots
 pub window_long : (m : Machine) (slots : List ℕ) (past : List Done) → length (window m slots past) ≡ slot_count
@@ -125,3 +125,10 @@ range_more a n = rw add-one (go a n)
     go : (a n : ℕ) → range_with_len a (suc n) ≡ range_with_len a n ++ (a + n) ∷ []
     go a zero = let e : a + 0 ≡ a = omega arith in rw e refl
     go a (suc n) = let e : a + 1 + n ≡ a + suc n = omega arith in ap (λ xs. a ∷ xs) (go (a + 1) n ∙ ap (λ x. range_with_len (a + 1) n ++ x ∷ []) e)
+
+-- the diagrams of a block's times read none but the first twelve events
+pub few_events : (nodes : List Node) (m : Machine) (from : List ℕ) (b : Block) (v : BlockVector) → IsTimed b → AreTimes nodes m from b v → AreDiagrams nodes 12 (v.last ∷ v.slots)
+few_events nodes m from b v t w =
+    let k : length b.slots ≤ 12 = t.few in
+    All-weaker (IsDiagram nodes (length b.slots)) (IsDiagram nodes 12)
+    (λ d x. record { within = x.within; events = λ q e hit miss below is. let l : e < length b.slots = x.events q e hit miss below is in omega arith }) (v.last ∷ v.slots) w.diagrams

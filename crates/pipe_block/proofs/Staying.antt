@@ -1,20 +1,26 @@
 -- Kept answers as the table and the pool grow.
-use Rattle.std.proofs.Common.{◌≡◌, ℕ, ◌≤◌, List, [], ◌∷◌, length, map, slice_get, Some, All, refl, sym, ◌∙◌, arith, cond, Bool, true, false, nat_eq, ◌&&◌}
-use Rattle.std.proofs.lemmas.Bool.{false≢true}
+use Rattle.std.proofs.Common.{◌≡◌, ℕ, ◌≤◌, List, [], ◌∷◌, ◌++◌, length, map, slice_get, Some, None, All, refl, sym, ap, ◌∙◌, inl, inr, arith, cond, Bool, true, false, nat_eq, ◌&&◌}
+use Rattle.std.proofs.lemmas.Bool.{false≢true, cases_lt}
 use Rattle.std.proofs.lemmas.Bool.Decides.{nat_tests}
-use Rattle.std.proofs.lemmas.Option.{same_Some}
-use Rattle.pipe_block.proofs.Plans.{one_more}
+use Rattle.std.proofs.lemmas.Option.{same_Some, slice_get_within}
 use Rattle.std.proofs.lemmas.List.Elements.{All-head, All-tail, All-weaker}
 use Rattle.wx_base.specs.declared.machine.Machine.{Machine}
 use Rattle.xdd_table.specs.declared.node.Dd.{Dd}
 use Rattle.xdd_table.specs.declared.node.Node.{Node}
 use Rattle.xdd_table.specs.Diagram.{time}
 use Rattle.flow_block.specs.declared.block.Block.{Block}
+use Rattle.flow_graph.specs.declared.program.Function.{Function}
+use Rattle.flow_ctx.specs.declared.unfolded.UNode.{UNode}
+use Rattle.flow_ctx.specs.declared.unfolded.Unfolded.{Unfolded}
+use Rattle.flow_ctx.specs.Nodes.{IsBlockOf}
 use Rattle.pipe_time.specs.declared.vector.Vector.{Vector}
 use Rattle.pipe_block.specs.declared.diagrams.BlockVector.{BlockVector}
+use Rattle.pipe_block.specs.declared.key.MemoKey.{MemoKey}
 use Rattle.pipe_block.specs.Times.{IsDiagram, AreTimes}
-use Rattle.pipe_block.specs.Kept.{same_pair, kept_in, AreRight}
-use Rattle.pipe_block.specs.Laws.{TimesStay, RightAnswersStay, NoAnswerIsRight}
+use Rattle.pipe_block.specs.Kept.{same_key, kept_in, AreRight, IsAnswered, IsKeyOf, IsRight}
+use Rattle.pipe_block.specs.Laws.{TimesStay, RightAnswersStay, NoAnswerIsRight, InterningKeeps, KeepsVectors}
+use Rattle.pipe_block.proofs.Arrivals.{front}
+use Rattle.pipe_block.proofs.Plans.{one_more}
 
 same_map : {A B : Type 0} (f g : A → B) (xs : List A) → All (λ x. f x ≡ g x) xs → map f xs ≡ map g xs
 same_map f g [] h = refl
@@ -40,43 +46,124 @@ times_stay old new m from block v k w =
     }
 
 pub right_answers_stay : RightAnswersStay
-right_answers_stay old new pool more m blocks entries k kept all = record {
-  each = λ number place v is.
-      let w = all.each number place v is in
-      (w.0, kept.kept place w.0 w.1, times_stay old new m w.0.slots (blocks number) v k w.2);
+right_answers_stay old new pool more m u entries k kept all = record {
+  each = λ key v is.
+      let r = all.each key v is in
+      record {
+        function = r.function;
+        block = r.block;
+        from = r.from;
+        function_stands = r.function_stands;
+        block_stands = r.block_stands;
+        from_stands = kept.kept key.place r.from r.from_stands;
+        times = times_stay old new m r.from.slots r.block v k r.times;
+      };
+}
+
+pub pool_stays : (pool : List Vector) → KeepsVectors pool pool
+pool_stays pool = record { kept = λ place v is. is }
+
+pub interning_keeps : InterningKeeps
+interning_keeps old new v place s = record {
+  kept = λ p w is. elim (cases_lt place (length old)) [
+    | inl l ↦ let e : new ≡ old = s.found l in rw e is
+    | inr g ↦
+        let e : new ≡ old ++ v ∷ [] = (s.added (omega (arith, g))).1 in
+        rw e (front old (v ∷ []) p (slice_get_within old p w is) ∙ is)
+  ];
 }
 
 pub no_answer_is_right : NoAnswerIsRight
-no_answer_is_right nodes pool m blocks = record { each = λ number place v is. cc }
+no_answer_is_right nodes pool m u = record { each = λ key v is. cc }
 
--- what is kept for a number and a place holds for the block with the number and the vector at the place
-pub right_times : (nodes : List Node) (pool : List Vector) (m : Machine) (blocks : ℕ → Block) (entries : List ((ℕ × ℕ) × BlockVector)) (number place : ℕ) (v : BlockVector) (from : Vector) (block : Block)
-    → AreRight nodes pool m blocks entries → kept_in entries (number, place) ≡ Some v → blocks number ≡ block → slice_get pool place ≡ Some from → AreTimes nodes m from.slots block v
-right_times nodes pool m blocks entries number place v from block all is of at =
-    let w = all.each number place v is in
-    let same : w.0 ≡ from = same_Some w.0 from (sym w.1 ∙ at) in
-    rw (← same, ← of) w.2
+both : (x y : Bool) → (x && y) ≡ true → (x ≡ true) × (y ≡ true)
+both true y h = (refl, h)
+both false y h = absurd (false≢true h)
 
--- one more answer is kept
-pub right_more : (nodes : List Node) (pool : List Vector) (m : Machine) (blocks : ℕ → Block) (old new : List ((ℕ × ℕ) × BlockVector)) (number place : ℕ) (v : BlockVector) (from : Vector) (block : Block)
-    → AreRight nodes pool m blocks old → slice_get pool place ≡ Some from → blocks number ≡ block → AreTimes nodes m from.slots block v
-    → ((q : ℕ × ℕ) → kept_in new q ≡ cond (same_pair (number, place) q) (Some v) (kept_in old q)) → AreRight nodes pool m blocks new
-right_more nodes pool m blocks old new number place v from block all at of w updates = record {
-  each = λ n p x is.
-      one_more (same_pair (number, place) (n, p)) (λ (k : ℕ × ℕ) (y : BlockVector). (from : Vector) × (slice_get pool k.1 ≡ Some from) × AreTimes nodes m from.slots (blocks k.0) y)
-      (number, place) (n, p) v x (kept_in old (n, p)) (pair_same number place n p) (from, at, rw of w) (all.each n p x) (sym (updates (n, p)) ∙ is);
+number_same : (a b : ℕ) → nat_eq a b ≡ true → a ≡ b
+number_same a b h = grind (arith, nat_tests)
+
+number_itself : (a : ℕ) → nat_eq a a ≡ true
+number_itself a = grind (arith, nat_tests)
+
+key_same : (a b : MemoKey) → same_key a b ≡ true → a ≡ b
+key_same a b h =
+    let w = both (nat_eq a.function b.function) (nat_eq a.block b.block && nat_eq a.place b.place) h in
+    let x = both (nat_eq a.block b.block) (nat_eq a.place b.place) w.1 in
+    let e : a.function ≡ b.function = number_same a.function b.function w.0 in
+    let f : a.block ≡ b.block = number_same a.block b.block x.0 in
+    let g : a.place ≡ b.place = number_same a.place b.place x.1 in
+    rw (e, f, g) refl
+
+key_itself : (a : MemoKey) → same_key a a ≡ true
+key_itself a = rw (number_itself a.function, number_itself a.block, number_itself a.place) refl
+
+-- a node and a place have one key
+pub key_once : (u : Unfolded) (node place : ℕ) (a b : MemoKey) → IsKeyOf u node place a → IsKeyOf u node place b → a ≡ b
+key_once u node place a b k l =
+    let same : k.at ≡ l.at = same_Some k.at l.at (sym k.stands ∙ l.stands) in
+    k.is ∙ ap (λ (n : UNode). record { function = n.function; block = n.block; place = place }) same ∙ sym l.is
+
+module _ (nodes : List Node) (pool : List Vector) (m : Machine) (u : Unfolded) (node place : ℕ) (key : MemoKey) (from : Vector) (b : Block)
+    (k : IsKeyOf u node place key) (at : slice_get pool place ≡ Some from) (of : IsBlockOf u node b) where
+  same_node : k.at ≡ of.node
+  same_node = same_Some k.at of.node (sym k.stands ∙ of.stands)
+
+  from_at : slice_get pool key.place ≡ Some from
+  from_at = ap (λ (x : MemoKey). slice_get pool x.place) k.is ∙ at
+
+  function_at : slice_get u.program.functions key.function ≡ Some of.function
+  function_at =
+      ap (λ (x : MemoKey). slice_get u.program.functions x.function) k.is ∙ (ap (λ (n : UNode). slice_get u.program.functions n.function) same_node ∙ of.function_stands)
+
+  block_at : slice_get of.function.blocks key.block ≡ Some b
+  block_at = ap (λ (x : MemoKey). slice_get of.function.blocks x.block) k.is ∙ (ap (λ (n : UNode). slice_get of.function.blocks n.block) same_node ∙ of.block_stands)
+
+  -- the times of the node's block from the vector at the place are right for their key
+  pub right_for : (v : BlockVector) → AreTimes nodes m from.slots b v → IsRight nodes pool m u key v
+  right_for v w = record { function = of.function; block = b; from = from; function_stands = function_at; block_stands = block_at; from_stands = from_at; times = w }
+
+  -- and what is right for the key are these times
+  pub right_times : (v : BlockVector) → IsRight nodes pool m u key v → AreTimes nodes m from.slots b v
+  right_times v r =
+      let function : r.function ≡ of.function = same_Some r.function of.function (sym r.function_stands ∙ function_at) in
+      let block : r.block ≡ b = same_Some r.block b (sym r.block_stands ∙ (ap (λ (f : Function). slice_get f.blocks key.block) function ∙ block_at)) in
+      let vector : r.from ≡ from = same_Some r.from from (sym r.from_stands ∙ from_at) in
+      rw (← vector, ← block) r.times
+
+-- the block of what is right for a node's key is that of the node
+pub right_block : (nodes : List Node) (pool : List Vector) (m : Machine) (u : Unfolded) (node place : ℕ) (key : MemoKey) (v : BlockVector) → IsKeyOf u node place key → (r : IsRight nodes pool m u key v) → IsBlockOf u node r.block
+right_block nodes pool m u node place key v k r = record {
+  node = k.at;
+  function = r.function;
+  stands = k.stands;
+  function_stands = sym (ap (λ (x : MemoKey). slice_get u.program.functions x.function) k.is) ∙ r.function_stands;
+  block_stands = sym (ap (λ (x : MemoKey). slice_get r.function.blocks x.block) k.is) ∙ r.block_stands;
 }
-  where
-    both : (x y : Bool) → (x && y) ≡ true → (x ≡ true) × (y ≡ true)
-    both true y h = (refl, h)
-    both false y h = absurd (false≢true h)
 
-    one : (a b : ℕ) → nat_eq a b ≡ true → a ≡ b
-    one a b h = grind (arith, nat_tests)
+module _ (old new : List (MemoKey × BlockVector)) (key : MemoKey) (v : BlockVector)
+    (updates : (q : MemoKey) → kept_in new q ≡ cond (same_key key q) (Some v) (kept_in old q)) where
+  -- one more answer is kept
+  pub right_more : (nodes : List Node) (pool : List Vector) (m : Machine) (u : Unfolded) → AreRight nodes pool m u old → IsRight nodes pool m u key v → AreRight nodes pool m u new
+  right_more nodes pool m u all r = record {
+    each = λ q x is.
+        one_more (same_key key q) (λ (q : MemoKey) (x : BlockVector). IsRight nodes pool m u q x) key q v x (kept_in old q) (key_same key q) r (all.each q x) (sym (updates q) ∙ is);
+  }
 
-    pair_same : (a b c d : ℕ) → (nat_eq a c && nat_eq b d) ≡ true → ◌≡◌ {A = ℕ × ℕ} (a, b) (c, d)
-    pair_same a b c d h =
-        let w = both (nat_eq a c) (nat_eq b d) h in
-        let e : a ≡ c = one a c w.0 in
-        let f : b ≡ d = one b d w.1 in
-        rw (e, f) refl
+  by_test : (q : MemoKey) (e : Bool) → same_key key q ≡ e → (q ≡ key → ⊥) → cond e (Some v) (kept_in old q) ≡ kept_in old q
+  by_test q true h other = absurd (other (sym (key_same key q h)))
+  by_test q false h other = refl
+
+  pub answered : IsAnswered old new key v
+  answered = record {
+    there = updates key ∙ ap (λ e. cond e (Some v) (kept_in old key)) (key_itself key);
+    others = λ q other. updates q ∙ by_test q (same_key key q) refl other;
+  }
+
+-- a node's block and a place have one answer, or none
+module _ (entries : List (MemoKey × BlockVector)) (u : Unfolded) (node place : ℕ) (a b : MemoKey) (k : IsKeyOf u node place a) (l : IsKeyOf u node place b) where
+  pub known_once : (v w : BlockVector) → kept_in entries a ≡ Some v → kept_in entries b ≡ Some w → v ≡ w
+  known_once v w is was = same_Some v w (sym is ∙ (ap (kept_in entries) (key_once u node place a b k l) ∙ was))
+
+  pub not_known : (w : BlockVector) → kept_in entries a ≡ None → kept_in entries b ≡ Some w → ⊥
+  not_known w none was = let e : None ≡ Some w = sym none ∙ (ap (kept_in entries) (key_once u node place a b k l) ∙ was) in absurd cc

@@ -7,8 +7,13 @@ use Rattle.xdd_table.specs.declared.node.Node.{Node}
 use Rattle.xdd_table.specs.Diagram.{Keeps}
 use Rattle.flow_block.specs.declared.block.Block.{Block}
 use Rattle.flow_block.specs.Blocks.{IsBlock}
+use Rattle.flow_ctx.specs.declared.unfolded.Unfolded.{Unfolded}
+use Rattle.flow_ctx.specs.Laws.{IsUnfoldedOn}
+use Rattle.flow_ctx.specs.Nodes.{IsBlockOf}
 use Rattle.pipe_time.specs.declared.vector.Vector.{Vector}
+use Rattle.pipe_time.specs.Pool.{Stands}
 use Rattle.pipe_block.specs.declared.diagrams.BlockVector.{BlockVector}
+use Rattle.pipe_block.specs.declared.key.MemoKey.{MemoKey}
 use Rattle.pipe_block.specs.Events.{IsTimed}
 use Rattle.pipe_block.specs.Times.{AreTimes}
 use Rattle.pipe_block.specs.Kept.{AreRight}
@@ -18,6 +23,10 @@ abbrev pub BlocksAreTimed : Type 0
 BlocksAreTimed =
     (image : Image) (facts : Facts) (machine : Machine) (entry : ℕ) (block : Block) →
     IsBlock image facts machine entry block → IsTimed block
+
+-- so can the block of each node of an unfolding
+abbrev pub NodesAreTimed : Type 0
+NodesAreTimed = (machine : Machine) (u : Unfolded) (number : ℕ) (block : Block) → IsUnfoldedOn machine u → IsBlockOf u number block → IsTimed block
 
 -- earlier places keep their vectors
 pub record KeepsVectors (old new : List Vector) : Type 0 where
@@ -31,9 +40,13 @@ TimesStay =
 -- right answers stay right as table and pool grow
 abbrev pub RightAnswersStay : Type 0
 RightAnswersStay =
-    (old new : List Node) (pool more : List Vector) (m : Machine) (blocks : ℕ → Block) (entries : List ((ℕ × ℕ) × BlockVector)) →
-    Keeps old new → KeepsVectors pool more → AreRight old pool m blocks entries → AreRight new more m blocks entries
+    (old new : List Node) (pool more : List Vector) (m : Machine) (u : Unfolded) (entries : List (MemoKey × BlockVector)) →
+    Keeps old new → KeepsVectors pool more → AreRight old pool m u entries → AreRight new more m u entries
 
--- no answer is right
+-- where nothing is kept, all that is kept is right
 abbrev pub NoAnswerIsRight : Type 0
-NoAnswerIsRight = (nodes : List Node) (pool : List Vector) (m : Machine) (blocks : ℕ → Block) → AreRight nodes pool m blocks []
+NoAnswerIsRight = (nodes : List Node) (pool : List Vector) (m : Machine) (u : Unfolded) → AreRight nodes pool m u []
+
+-- a pool keeps its vectors when one is interned
+abbrev pub InterningKeeps : Type 0
+InterningKeeps = (old new : List Vector) (v : Vector) (place : ℕ) → Stands old new v place → KeepsVectors old new

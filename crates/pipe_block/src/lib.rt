@@ -8,6 +8,7 @@ mod diagrams;
 mod exits;
 mod gather;
 mod keeping;
+mod key;
 mod laws;
 mod outcome;
 mod row;
@@ -17,7 +18,7 @@ mod walk;
 
 pub use diagrams::{BlockExit, BlockVector, Outcome, OutcomeList, Outcomes};
 pub use exits::exit;
-pub use keeping::{BlockMemo, Numbered, block_at};
+pub use keeping::{BlockMemo, block_at};
 pub use laws::{blocks_are_timed, kept_answers_stay};
 pub use outcome::outcomes;
 pub use timing::{block, finish};

@@ -1,4 +1,4 @@
-ghost use Rattle.std.specs.Prelude.{◌≡◌, ◌<◌, ◌^◌, ℕ, List, length, slice_get, Some, IfOk};
+ghost use Rattle.std.specs.Prelude.{◌≡◌, ◌<◌, ◌^◌, ◌∷◌, ℕ, List, length, slice_get, Some, IfOk};
 ghost use Rattle.wx_base.specs.declared.machine.Machine.{Machine as MachineOf};
 ghost use Rattle.flow_block.specs.declared.block.Block.{Block as BlockOf};
 ghost use Rattle.wx_base.specs.Blocks.{finish_from};
@@ -7,7 +7,7 @@ ghost use Rattle.wx_base.specs.Vector.{AreWithin};
 ghost use Rattle.xdd_table.specs.declared.node.Node.{Node as NodeOf};
 ghost use Rattle.xdd_table.specs.Diagram.{Combination, time, Keeps};
 ghost use Rattle.pipe_block.specs.Events.{IsTimed, entries_of};
-ghost use Rattle.pipe_block.specs.Times.{AreTimes};
+ghost use Rattle.pipe_block.specs.Times.{AreDiagrams, AreTimes};
 
 use crate::columns::columns;
 use crate::diagrams::BlockVector;
@@ -33,6 +33,7 @@ pub fn block(
     requires timed { IsTimed b.now }
     requires machine { IsMachine m.now }
     ensures times { IfOk result (AreTimes table.new m.now from.now.slots b.now) }
+    ensures few { IfOk result (λ v. AreDiagrams table.new 12 (v.last ∷ v.slots)) }
     ensures kept { Keeps table.old table.new }
 {
     let alloc = table.allocator();

@@ -1,1 +1,2 @@
 mod Vertices
+mod Interned

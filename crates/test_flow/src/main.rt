@@ -6,6 +6,7 @@ mod graphs;
 mod images;
 mod parts;
 mod programs;
+mod sharing;
 mod unfoldings;
 
 use anyhow::{Result, bail};
@@ -30,6 +31,7 @@ impl Cases for FlowCases {
             "program" => programs::push_program(alloc, out, case),
             "unfold" => unfoldings::push_unfolding(alloc, out, case),
             "nodes" => unfoldings::push_node_count(alloc, out, case),
+            "share" => sharing::push_shared(alloc, out, case),
             "count" => programs::push_counts(alloc, out, case),
             "loops" => graphs::push_loops(alloc, out, case),
             "reach" => graphs::push_reached(alloc, out, case),

@@ -2,7 +2,8 @@
 
 ghost use Rattle.std.specs.Prelude.{IfOk};
 ghost use Rattle.wx_base.specs.Facts.{FactsAscend};
-ghost use Rattle.flow_ctx.specs.Laws.{IsBuilt};
+ghost use Rattle.wx_base.specs.Machine.{IsMachine};
+ghost use Rattle.flow_ctx.specs.Laws.{IsBuilt, IsBuiltOn};
 
 use crate::images::image_of;
 use crate::parts::{pair, word};
@@ -31,21 +32,26 @@ pub fn push_ways(alloc: Global, out: &mut String, case: &str) -> Result<()> {
     push_addresses(out, "", list.as_slice())
 }
 
-/// The program of a case: where runs start, the segments, and the facts.
-pub fn program_of(alloc: Global, case: &str) -> Result<Result<Program, FlowError>>
-    ensures { IfOk result (λ outcome. IfOk outcome IsBuilt) }
+/// The program of a case on a machine: where runs start, the segments, and the facts.
+pub fn program_of(
+    alloc: Global,
+    case: &str,
+    machine: &Machine,
+) -> Result<Result<Program, FlowError>>
+    requires { IsMachine machine.now }
+    ensures built { IfOk result (λ outcome. IfOk outcome IsBuilt) }
+    ensures on { IfOk result (λ outcome. IfOk outcome (IsBuiltOn machine.now)) }
 {
     let (start, parts) = pair(case, " | ")?;
     let (segments, facts) = pair(parts, " | ")?;
     let image = image_of(alloc, segments)?;
     let facts = facts_of(alloc, facts)?;
-    let machine = Machine::m1(alloc);
-    Ok(build(alloc, &image, &facts, word(start)?, &machine))
+    Ok(build(alloc, &image, &facts, word(start)?, machine))
 }
 
 /// Appends the functions of a case's program, or why there is none.
 pub fn push_program(alloc: Global, out: &mut String, case: &str) -> Result<()> {
-    match program_of(alloc, case)? {
+    match program_of(alloc, case, &Machine::m1(alloc))? {
         Ok(program) => push_functions(out, &program),
         Err(refusal) => push_refusal(out, refusal),
     }
@@ -53,7 +59,7 @@ pub fn push_program(alloc: Global, out: &mut String, case: &str) -> Result<()> {
 
 /// Appends how much a case's program has, or why there is none.
 pub fn push_counts(alloc: Global, out: &mut String, case: &str) -> Result<()> {
-    match program_of(alloc, case)? {
+    match program_of(alloc, case, &Machine::m1(alloc))? {
         Ok(program) => push_sizes(out, &program),
         Err(refusal) => push_refusal(out, refusal),
     }

@@ -5,13 +5,14 @@ use anyhow::Result;
 use flow_ctx::{Call, Edge, ULoop, UNode, UnfoldError, Unfolded, unfold};
 use std::alloc::Global;
 use std::fmt::Write;
+use wx_base::Machine;
 
 /// Appends the unfolding of a case's program, or why there is none.
 pub fn push_unfolding(alloc: Global, out: &mut String, case: &str) -> Result<()> {
-    match program_of(alloc, case)? {
+    match program_of(alloc, case, &Machine::m1(alloc))? {
         Ok(program) => match unfold(alloc, program) {
             Ok(unfolded) => push_whole(out, &unfolded),
-            Err(refusal) => push_text(out, refusal),
+            Err(refusal) => push_unfold_error(out, refusal),
         },
         Err(refusal) => push_refusal(out, refusal),
     }
@@ -19,10 +20,10 @@ pub fn push_unfolding(alloc: Global, out: &mut String, case: &str) -> Result<()>
 
 /// Appends how many nodes the unfolding of a case's program has, or why there is none.
 pub fn push_node_count(alloc: Global, out: &mut String, case: &str) -> Result<()> {
-    match program_of(alloc, case)? {
+    match program_of(alloc, case, &Machine::m1(alloc))? {
         Ok(program) => match unfold(alloc, program) {
             Ok(unfolded) => push_count(out, unfolded.nodes.as_slice().len()),
-            Err(refusal) => push_text(out, refusal),
+            Err(refusal) => push_unfold_error(out, refusal),
         },
         Err(refusal) => push_refusal(out, refusal),
     }
@@ -33,7 +34,8 @@ fn push_count(out: &mut String, count: usize) -> Result<()> {
     Ok(())
 }
 
-fn push_text(out: &mut String, refusal: UnfoldError) -> Result<()> {
+/// Appends why there is no unfolding.
+pub fn push_unfold_error(out: &mut String, refusal: UnfoldError) -> Result<()> {
     write!(out, " {refusal}")?;
     Ok(())
 }

@@ -7,8 +7,8 @@ use case_lines::{Cases, print_files};
 use std::alloc::Global;
 use std::cell::Cell;
 use std::fmt::{Display, Write};
-use std::io;
 use std::rt::Files;
+use std::{fs, io};
 use wx_host::{HostSink, HostStore, Sink, Store};
 use wx_text::read_decimal;
 
@@ -46,7 +46,8 @@ impl Print for Narrow {
 /// The cases of this program.
 struct HostCases;
 
-/// A case is a step: `read NAME`, `write NAME COUNT` or `put COUNT MOST SIGNALS`.
+/// A case is a step: `read NAME`, `write NAME COUNT`, `folder NAME`, `take FOLDER`, `free FOLDER` or
+/// `put COUNT MOST SIGNALS`.
 impl Cases for HostCases {
     fn push_outcome<R: Files + AllocGlobal>(
         &self,
@@ -58,6 +59,9 @@ impl Cases for HostCases {
         match verb {
             "read" => read(rt, out, rest),
             "write" => write(rt, out, rest),
+            "folder" => fs::create_dir(rt, rest).context("a folder is made"),
+            "take" => take(rt, rest),
+            "free" => free(rt, rest),
             "put" => put(rt.alloc(), out, rest),
             _ => bail!("no such step"),
         }
@@ -85,6 +89,29 @@ fn write(rt: &(impl Files + AllocGlobal), out: &mut String, rest: &str) -> Resul
     let answer = HostStore::new(rt).write(name, bytes.as_slice());
     write!(out, " {answer:?}")?;
     Ok(())
+}
+
+/// Takes each name in a folder that the store may use for a new file.
+fn take(rt: &(impl Files + AllocGlobal), folder: &str) -> Result<()> {
+    for number in 0..10_u8 {
+        fs::create_dir(rt, name_in(rt.alloc(), folder, number)?.as_str())?;
+    }
+    Ok(())
+}
+
+/// Frees the names that `take` took.
+fn free(rt: &(impl Files + AllocGlobal), folder: &str) -> Result<()> {
+    for number in 0..10_u8 {
+        fs::remove_dir(rt, name_in(rt.alloc(), folder, number)?.as_str())?;
+    }
+    Ok(())
+}
+
+/// The name of that number which the store may use for a new file.
+fn name_in(alloc: Global, folder: &str, number: u8) -> Result<String> {
+    let mut name = String::new(alloc);
+    write!(name, "{folder}/.wcet-{number}")?;
+    Ok(name)
 }
 
 /// The answer to a put of so many letters a to an output that takes at most so many after so many signals.

@@ -2,7 +2,7 @@
 
 use crate::parts::{number, numbers, pair, small, whole};
 use anyhow::{Result, bail};
-use path_problem::{Arc, Graph, LoopArcs};
+use path_graph::{Arc, Graph, LoopArcs};
 use std::alloc::Global;
 use wx_text::List;
 

@@ -3,10 +3,8 @@
 use crate::made::graph_of;
 use crate::parts::{numbers, pair, truths};
 use anyhow::{Result, ensure};
-use path_problem::{
-    Graph, LoopPrices, PathError, check, choose, fit, has_natural_finishes, is_bounded, is_graph,
-    potentials, prices,
-};
+use path_graph::{Graph, LoopPrices, fit, has_natural_finishes, is_bounded, is_graph};
+use path_problem::{PathError, check, choose, potentials, prices};
 use std::alloc::Global;
 use std::fmt::Write;
 use wx_text::List;

@@ -1,7 +1,8 @@
 ghost use Rattle.std.specs.Prelude.{◌≡◌, None};
 
 use crate::store::{LONGEST_FILE, Store, StoreFault};
-use std::io::{Read, Write};
+use crate::whole_file::write_file;
+use std::io::Read;
 use std::marker::Model;
 use std::rt::Files;
 use std::{fs, io};
@@ -11,14 +12,14 @@ use std::{fs, io};
 /// Its names are paths. Each error of the system is a fault of the read or the write that met it, also that
 /// there is no such file, and only want of memory is none.
 #[derive(Drop)]
-pub struct HostStore<R: Files> {
+pub struct HostStore<R: Files + AllocGlobal> {
     files: R,
     asked: u64,
     read_faults: u64,
     write_faults: u64,
 }
 
-impl<R: Files> Model for HostStore<R> {
+impl<R: Files + AllocGlobal> Model for HostStore<R> {
     ghost use Rattle.wx_host.specs.Host.{Counts};
 
     ghost Value = { Counts };
@@ -26,7 +27,7 @@ impl<R: Files> Model for HostStore<R> {
     ghost view = { λ s. record { asked = s.asked; read_faults = s.read_faults; write_faults = s.write_faults } };
 }
 
-impl<R: Files> HostStore<R> {
+impl<R: Files + AllocGlobal> HostStore<R> {
     /// A store over these files, as `HostStore::new(&rt)`.
     pub fn new(files: R) -> HostStore<R>
         ensures asked { result.asked ≡ 0 }
@@ -42,7 +43,7 @@ impl<R: Files> HostStore<R> {
     }
 }
 
-impl<R: Files> Store for HostStore<R> {
+impl<R: Files + AllocGlobal> Store for HostStore<R> {
     ghost holds = { λ _. None };
 
     ghost asked = { λ s. s.asked };
@@ -74,18 +75,19 @@ impl<R: Files> Store for HostStore<R> {
         }
     }
 
-    /// Makes the file, or cuts it to nothing, and writes the bytes.
+    /// Makes the bytes the content of the file. A name that nothing has, or that is a plain file, is as it was after
+    /// each refusal: the bytes go to a new file beside it, which takes its place once it has them all. What is no plain
+    /// file (a device, a pipe, a link) is written in place, and may have a front of the bytes after
+    /// [`StoreFault::Failed`].
     fn write(&mut self, name: &str, bytes: &[u8]) -> Result<(), StoreFault> {
-        let answer = match fs::create(&self.files, name) {
-            Err(error) if is_want_of_memory(&error) => return Err(StoreFault::NoMemory),
-            Err(error) => Err(error),
-            Ok(mut file) => file.write_all(bytes),
-        };
-        if answer.is_err() {
-            self.write_faults = self.write_faults.saturating_add(1);
-            return Err(StoreFault::Failed);
+        match write_file(&self.files, name, bytes) {
+            Ok(()) => Ok(()),
+            Err(error) if is_want_of_memory(&error) => Err(StoreFault::NoMemory),
+            Err(_) => {
+                self.write_faults = self.write_faults.saturating_add(1);
+                Err(StoreFault::Failed)
+            }
         }
-        Ok(())
     }
 }
 

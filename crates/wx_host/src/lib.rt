@@ -10,6 +10,7 @@ mod names;
 mod outages;
 mod sink;
 mod store;
+mod whole_file;
 
 pub use file::File;
 pub use host_sink::HostSink;

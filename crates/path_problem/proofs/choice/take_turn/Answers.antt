@@ -6,7 +6,7 @@ use Rattle.path_problem.proofs.choice.take_turn.Goals as goal
 
 pub returns : goal.returns
 returns c =
-    let g = c.args.graph.now in
+    let g = c.args.layout.now.graph.now in
     let k = c.args.total in
     let less = c.is_less-is_given_up.result in
     let F : Outcome → Type 0 = λ o. TurnsSoFar g (k + 1) (set (set c.args.chosen.now k false) k (not less)) o in

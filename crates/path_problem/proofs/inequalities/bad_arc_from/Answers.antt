@@ -1,7 +1,7 @@
 use Rattle.std.proofs.Common.{List, ◌≡◌, ◌+◌, ◌^◌, ◌∙◌, ap, refl, get_or, arith}
 use Rattle.std.specs.Prelude.{pos}
-use Rattle.path_problem.specs.declared.graph.Arc.{Arc}
-use Rattle.path_problem.specs.Graph.{arc_at}
+use Rattle.path_graph.specs.declared.graph.Arc.{Arc}
+use Rattle.path_graph.specs.Graph.{arc_at}
 use Rattle.path_problem.proofs.CheckLemmas.{covered_more, covers, tested, fits64}
 use Rattle.path_problem.specs.Window.{weight_limit}
 use Rattle.path_problem.proofs.inequalities.bad_arc_from.Goals as goal

@@ -1,6 +1,6 @@
 use Rattle.std.proofs.Common.{◌+◌, sym, subst, arith}
 use Rattle.std.specs.Prelude.{pos, ◌<ℤ◌, ℤ}
-use Rattle.path_problem.specs.declared.graph.TheConstants.{LARGEST}
+use Rattle.path_graph.specs.declared.graph.TheConstants.{LARGEST}
 use Rattle.path_problem.specs.Net.{IsShortGain}
 use Rattle.path_problem.proofs.LeastLemmas.{gain_within, gain_positive, above_none, gains_below, next_greater, gains_same, pays_same, enough_same}
 use Rattle.path_problem.proofs.least.least_price.Goals as goal

@@ -2,8 +2,8 @@ use Rattle.std.proofs.Common.{◌≡◌, ◌<◌, ◌++◌, ℕ, Bool, cond, Lis
 use Rattle.std.specs.List.{zip}
 use Rattle.std.proofs.lemmas.List.{get_or_default, take_all}
 use Rattle.std.proofs.lemmas.Slice.Zip.{length-zip}
-use Rattle.path_problem.specs.declared.graph.LoopArcs.{LoopArcs}
-use Rattle.path_problem.specs.Graph.{loop_at}
+use Rattle.path_graph.specs.declared.graph.LoopArcs.{LoopArcs}
+use Rattle.path_graph.specs.Graph.{loop_at}
 use Rattle.path_problem.specs.Need.{is_chosen, loop_price}
 use Rattle.path_problem.proofs.NeedLemmas.{pairs_more, prices_more}
 use Rattle.path_problem.proofs.needs.loop_prices.Goals.{then-paid, else-paid}

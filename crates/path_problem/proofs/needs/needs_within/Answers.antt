@@ -1,6 +1,6 @@
 use Rattle.std.proofs.Common.{◌≡◌, ◌+◌, ◌<◌, ℕ, List, length, get_or, ap, sym, subst, ◌∙◌, arith}
 use Rattle.std.proofs.lemmas.List.{get_or_default}
-use Rattle.path_problem.specs.Graph.{loop_at}
+use Rattle.path_graph.specs.Graph.{loop_at}
 use Rattle.path_problem.specs.Need.{need_tolls}
 use Rattle.path_problem.specs.Part.{IsSmallNeed, NoneServes}
 use Rattle.path_problem.proofs.NetLemmas.{at_some}
@@ -9,12 +9,12 @@ use Rattle.path_problem.proofs.needs.needs_within.Goals as goal
 
 pub loop-number-init : goal.loop-number-init
 loop-number-init c =
-    let P : List ℕ → Type 0 = λ needs. NeedsSoFar c.args.graph.now c.args.chosen.now 0 needs c.own_weights.new.weights c.own_weights.new.stamps in
-    subst P (sym c.in_ok-needs.ensures.items) (no_needs c.args.graph.now c.args.chosen.now c.own_weights.new.weights c.own_weights.new.stamps c.own_weights.ensures.weights c.own_weights.ensures.within c.own_weights.ensures.fresh)
+    let P : List ℕ → Type 0 = λ needs. NeedsSoFar c.args.layout.now.graph.now c.args.chosen.now 0 needs c.own_weights.new.weights c.own_weights.new.stamps in
+    subst P (sym c.in_ok-needs.ensures.items) (no_needs c.args.layout.now.graph.now c.args.chosen.now c.own_weights.new.weights c.own_weights.new.stamps c.own_weights.ensures.weights c.own_weights.ensures.within c.own_weights.ensures.fresh)
 
 pub loop-number-preserved : goal.loop-number-preserved
 loop-number-preserved c =
-    let g = c.args.graph.now in
+    let g = c.args.layout.now.graph.now in
     let l = c.loop-number.number in
     let chosen = c.args.chosen.now in
     let needs = c.loop-number.needs.items in

@@ -1,7 +1,7 @@
 use Rattle.std.proofs.Common.{◌≡◌, ◌+◌, ◌<◌, ℕ, List, length, drop, get_or, ap, sym, subst, ◌∙◌, arith}
 use Rattle.std.proofs.lemmas.List.{get_or_default, take_at}
-use Rattle.path_problem.specs.declared.graph.LoopArcs.{LoopArcs}
-use Rattle.path_problem.specs.Graph.{loop_at}
+use Rattle.path_graph.specs.declared.graph.LoopArcs.{LoopArcs}
+use Rattle.path_graph.specs.Graph.{loop_at}
 use Rattle.path_problem.specs.Need.{AreTotalPrices}
 use Rattle.path_problem.proofs.NeedLemmas.{TotalsSoFar, totals_more, all_totals, raised_same}
 use Rattle.path_problem.proofs.needs.total_prices.Goals as goal

@@ -1,5 +1,5 @@
 use Rattle.std.proofs.Common.{◌+◌, ◌*◌, ◌^◌, arith}
-use Rattle.path_problem.specs.declared.graph.TheConstants.{LARGEST}
+use Rattle.path_graph.specs.declared.graph.TheConstants.{LARGEST}
 use Rattle.path_problem.specs.Window.{toll_of, weight_limit}
 use Rattle.path_problem.proofs.TollLemmas.{added_fits, added_within, with_toll, gain_is, loss_is, gain_within, loss_within}
 use Rattle.path_problem.proofs.window.add_toll.Goals as goal

@@ -1,6 +1,6 @@
 use Rattle.std.proofs.Common.{◌≡◌, ◌<◌, List, [], ◌∷◌, ◌++◌, take, length, get_or, ap, sym, subst, ◌∙◌, arith}
 use Rattle.std.proofs.lemmas.List.{get_or_default}
-use Rattle.path_problem.specs.Graph.{loop_at}
+use Rattle.path_graph.specs.Graph.{loop_at}
 use Rattle.path_problem.specs.Weight.{Toll, price_tolls}
 use Rattle.path_problem.specs.Window.{AreWeights}
 use Rattle.path_problem.proofs.TollLemmas.{toll_is, one_toll, all_tolls}

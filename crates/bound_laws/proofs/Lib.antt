@@ -1,0 +1,11 @@
+mod Sums
+mod Walks
+mod Places
+mod Misses
+mod Stays
+mod Totals
+mod Prices
+mod Charges
+mod Paid
+mod Balance
+mod Runs

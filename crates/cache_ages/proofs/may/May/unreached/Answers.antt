@@ -1,0 +1,7 @@
+use Rattle.std.proofs.Common.{length, refl}
+use Rattle.cache_ages.proofs.States.{filled}
+use Rattle.cache_ages.proofs.may.May.unreached.Goals as goal
+
+pub returns-clause-absent : goal.returns-clause-absent
+returns-clause-absent c = filled (0) (c.args.shape.ways) (length c.args.lines.now) c.args.lines.now c.in_ok-lines.lines.items c.in_ok-ages.ages.items
+    (c.in_ok-lines.ensures.items_if_clones_equal (λ y e h. h)) refl (c.in_ok-ages.ensures.items_if_clones_equal (λ y e. e))

@@ -1,0 +1,5 @@
+mod Ascending
+mod ClassLemmas
+mod FlowLemmas
+mod GroupLemmas
+mod OneTable

@@ -1,0 +1,5 @@
+pub mod Accesses
+pub mod Classes
+pub mod Allowed
+pub mod Groups
+pub mod Laws

@@ -1,0 +1,5 @@
+pub mod Lists
+pub mod Lowering
+pub mod Orders
+pub mod Solving
+pub mod Tables

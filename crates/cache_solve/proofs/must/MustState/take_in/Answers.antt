@@ -1,0 +1,23 @@
+use Rattle.std.proofs.Common.{subst}
+use Rattle.wx_base.specs.declared.machine.Shape.{Shape}
+use Rattle.cache_ages.specs.Bounds.{must_ages, AreAges}
+use Rattle.cache_solve.proofs.Lowering.{must_joined_least, must_joined_over, must_lowered, must_within, not_decided}
+use Rattle.cache_solve.proofs.must.MustState.take_in.Goals as goal
+
+pub returns-clause-covers : goal.returns-clause-covers
+returns-clause-covers c = (must_joined_over c.args.self.now.lines (must_ages c.args.self.now) (must_ages c.args.other.now) (must_ages c.join.new.self) c.join.ensures.ages).1
+
+pub returns-clause-grown : goal.returns-clause-grown
+returns-clause-grown c = (must_joined_over c.args.self.now.lines (must_ages c.args.self.now) (must_ages c.args.other.now) (must_ages c.join.new.self) c.join.ensures.ages).0
+
+pub returns-clause-least : goal.returns-clause-least
+returns-clause-least c joint p q = must_joined_least c.args.self.now.lines (must_ages c.args.self.now) (must_ages c.args.other.now) (must_ages c.join.new.self) joint c.join.ensures.ages p q
+
+pub returns-clause-within : goal.returns-clause-within
+returns-clause-within c =
+    subst (λ (s : Shape). AreAges s (must_ages c.join.new.self)) c.join.ensures.same.shape (must_within c.join.new.self c.are_bounds-3.ensures)
+
+pub returns-clause-changed : goal.returns-clause-changed
+returns-clause-changed c t =
+    must_lowered c.args.self.now c.args.other.now c.join.new.self c.are_bounds.ensures c.are_bounds-2.ensures c.requires.shape c.requires.lines c.join.ensures.same.shape c.join.ensures.same.lines c.join.ensures.ages
+    (not_decided c.leq.result c.leq.ensures c.if-leq.false)

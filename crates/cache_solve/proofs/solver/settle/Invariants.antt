@@ -1,0 +1,12 @@
+use Rattle.std.specs.List.{sum_by}
+use Rattle.cache_solve.specs.Systems.{IsOf}
+use Rattle.cache_solve.proofs.Solving.{RisenSoFar}
+use Rattle.cache_solve.proofs.solver.settle.Given as goal
+
+abbrev pub invariant-sweeps : goal.invariant-sweeps
+invariant-sweeps g l =
+    let s = g.S.State in
+    RisenSoFar (s.Covers l.flow.lines) (s.accessed l.shape) s.known (IsOf s.known s.shape_of s.lines_of s.IsWithin l.shape l.flow.lines) l.flow l.moves l.initial.states l.states
+
+abbrev pub decreases-sweeps : goal.decreases-sweeps
+decreases-sweeps g l = sum_by g.S.State.left l.states

@@ -1,0 +1,4 @@
+pub mod KeepLemmas
+pub mod SettledLemmas
+pub mod OfferLemmas
+pub mod PaymentLemmas

@@ -1,0 +1,4 @@
+pub mod Offers
+pub mod Settled
+pub mod Payments
+pub mod Laws

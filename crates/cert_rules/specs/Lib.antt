@@ -1,0 +1,4 @@
+pub mod Prices
+pub mod Rules
+pub mod Judged
+pub mod Laws

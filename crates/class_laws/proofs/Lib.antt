@@ -1,0 +1,17 @@
+mod Allowed
+mod Caches
+mod Cut
+mod Events
+mod Fits
+mod Flows
+mod Fronts
+mod Groups
+mod Lines
+mod Lists
+mod Loops
+mod Nodes
+mod Runs
+mod Staying
+mod Visited
+mod Visiting
+mod Works

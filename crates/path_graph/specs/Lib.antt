@@ -1,0 +1,4 @@
+pub mod Graph
+pub mod Conditions
+pub mod Tested
+pub mod Sources

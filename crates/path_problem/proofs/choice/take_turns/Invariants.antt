@@ -1,5 +1,0 @@
-use Rattle.path_problem.specs.Solution.{TurnsSoFar}
-use Rattle.path_problem.proofs.choice.take_turns.Given as goal
-
-abbrev pub invariant-loop-total : goal.invariant-loop-total
-invariant-loop-total l = TurnsSoFar l.graph l.total l.chosen l.best

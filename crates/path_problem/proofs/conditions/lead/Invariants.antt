@@ -1,9 +1,0 @@
-use Rattle.std.proofs.Common.{◌≡◌, ℕ, ◌+◌, ◌<◌, false, length, get_or}
-use Rattle.std.specs.Prelude.{IsTrue}
-use Rattle.path_problem.specs.Graph.{has, arc_at, loop_at}
-use Rattle.path_problem.specs.Tested.{IsSound, AreOwners}
-use Rattle.path_problem.proofs.TestedLemmas.{Leads, Enters, Falls, EndsBelow, IsAlike, OwnsSoFar, MarksSoFar}
-use Rattle.path_problem.proofs.conditions.lead.Given as goal
-
-abbrev pub invariant-loop-number : goal.invariant-loop-number
-invariant-loop-number l = (k : ℕ) → k < l.number-index → Leads l.graph l.marks l.from (get_or l.listed k 0)

@@ -1,0 +1,4 @@
+use Rattle.speed_paths.proofs.shapes.+push_part.Given as goal
+
+abbrev pub decreases-push_part : goal.decreases-push_part
+decreases-push_part l = l.depth
