@@ -59,6 +59,7 @@ def try_forms():
         ["run"], ["run", "a", "b", "c", "d"], ["run", "a", "b", "c", "d", "1", "2"], ["run", "a", "b", "c", "d", "1", "entry"],
         ["run", "a", "b", "c", "d", "1", "entry", "main", "x"], ["run", "a", "b", "c", "d", "1", "Entry", "main"],
         ["run", "a", "b", "c", "d", "01"], ["run", "a", "b", "c", "d", "-1"], ["run", "a", "b", "c", "d", ""],
+        ["migrate"], ["migrate", "a"], ["migrate", "a", "b", "c"], ["migrate", "a", "b", "entry", "main"], ["Migrate", "a", "b"],
         ["run", "a", "b", "c", "d", "1000000001"], ["run", "a", "b", "c", "d", "ten"], [b"\xff"], ["flat", b"\xff\xfe"],
     ]:
         expect(f"form {words}", words, 1, "usage")
@@ -209,6 +210,72 @@ def try_outputs():
     judge("an output that is a file", (done.returncode, pathlib.Path("line.txt").read_bytes()), (0, b"bound 20\n"))
 
 
+# The certificate of a loop of two nodes and the words around it, in both versions.
+CERT_ONE = b"""wx-cert 1
+node 0 1
+vec 42
+node 1 2
+vec 5
+vec 5 11:1 14:2 16:2 19:2
+node 2 1
+vec 3 11:1 14:2 16:2 19:1 34:1
+charge 00000800 run 8
+multiplier 0 4
+bound 50
+end
+"""
+CERT_TWO = b"""wx-cert 2
+vectors 3
+v
+v 11:1 14:2 16:2 19:1 34:1
+v 11:1 14:2 16:2 19:2
+node 0 42:0
+node 1 5:0 5:2
+node 2 3:1
+charge 00000800 run 8
+multiplier 0 4
+bound 50
+end
+"""
+
+
+def migrate(name, words, status, line, **files):
+    """Migrates, and compares what files hold afterwards; None is a file that is not there."""
+    expect(name, ["migrate", *words], status, line)
+    for file, content in files.items():
+        path = pathlib.Path("certs") / file
+        judge(f"{name}: {file}", path.read_bytes() if path.exists() else None, content)
+    judge(f"{name}: nothing else is left", [path.name for path in pathlib.Path("certs").glob(".wcet*")], [])
+
+
+def try_migrate():
+    os.mkdir("certs")
+    put("certs/one", CERT_ONE)
+    migrate("migrate version 1", ["certs/one", "certs/new"], 0, "migrated 3 3", one=CERT_ONE, new=CERT_TWO)
+    migrate("migrate version 2 over a file", ["certs/new", "certs/new"], 0, "migrated 3 3", new=CERT_TWO)
+    migrate("migrate a file over itself", ["certs/one", "certs/one"], 0, "migrated 3 3", one=CERT_TWO)
+    put("certs/one", CERT_ONE[:-4])
+    migrate("migrate a certificate that is cut off", ["certs/one", "certs/new"], 7, "certificate NoEnd", one=CERT_ONE[:-4], new=CERT_TWO)
+    put("certs/one", CERT_ONE.replace(b"bound 50", b"bound 050"))
+    migrate("migrate a bad number over itself", ["certs/one", "certs/one"], 7, "certificate Number 11", one=CERT_ONE.replace(b"bound 50", b"bound 050"))
+    put("certs/one", CERT_TWO.replace(b"vectors 3", b"vectors 4").replace(b"19:2\n", b"19:2\nv 11:1 14:2 16:2 19:2\n"))
+    migrate("migrate a vector given twice", ["certs/one", "certs/other"], 7, "certificate Order 6", other=None)
+    migrate("migrate no certificate", ["two.bin", "certs/other"], 7, "certificate Syntax 0", other=None)
+    migrate("migrate no file", ["certs/none", "certs/other"], 2, "read certs/none", other=None)
+    migrate("migrate a file that is too long", ["too-long.bin", "certs/other"], 10, "large file too-long.bin", other=None)
+    put("certs/one", CERT_ONE)
+    migrate("migrate into a folder that is not there", ["certs/one", "certs/none/new"], 3, "write certs/none/new", one=CERT_ONE)
+    migrate("migrate over a folder", ["certs/one", "certs"], 3, "write certs", one=CERT_ONE)
+    migrate("migrate onto a full device", ["certs/one", "/dev/full"], 3, "write /dev/full", one=CERT_ONE)
+    if os.geteuid():
+        put("certs/closed", CERT_TWO)
+        os.chmod("certs/closed", 0o444)
+        migrate("migrate over a file without permission", ["certs/one", "certs/closed"], 3, "write certs/closed", closed=CERT_TWO)
+    with open("/dev/full", "wb") as full:
+        done = subprocess.run([str(PROGRAM), "migrate", "certs/one", "certs/kept"], stdout=full, stderr=subprocess.PIPE, timeout=100)
+    judge("migrate with an output that is full", (done.returncode, done.stderr, pathlib.Path("certs/kept").read_bytes()), (3, b"", CERT_TWO))
+
+
 def sessions(text):
     """Gives each command that a document shows, with the lines that it shows as printed."""
     command, lines = None, []
@@ -240,7 +307,7 @@ def main():
     room = tempfile.mkdtemp()
     try:
         os.chdir(room)
-        for group in (try_forms, try_flat, try_names, try_run, try_sizes, try_outputs, try_documents):
+        for group in (try_forms, try_flat, try_names, try_run, try_sizes, try_outputs, try_migrate, try_documents):
             group()
     finally:
         os.chdir("/")

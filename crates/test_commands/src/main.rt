@@ -15,8 +15,8 @@ use wcet_cli::wcet;
 /// The cases of this program.
 struct CommandCases;
 
-/// A case is the words of a call, then ` | ` and the files of the store, then, perhaps, ` | ` and what fails. Its outcome
-/// is the status and the text.
+/// A case is the words of a call, then ` | ` and the files of the store, then, perhaps, ` | ` and what fails or is shown. Its
+/// outcome is the status and the text, and behind them the content of the name that is shown.
 impl Cases for CommandCases {
     fn push_outcome<R: Files + AllocGlobal>(
         &self,
@@ -32,12 +32,27 @@ impl Cases for CommandCases {
         let status = wcet(rt.alloc(), words.as_slice(), &mut store, &mut sink);
         let text = str::from_utf8(sink.bytes()).ok().context("no text")?;
         write!(out, " {status} {text:?}")?;
+        if let Some(name) = outside::shown_in(faults) {
+            push_content(out, store.get(name))?;
+        }
         Ok(())
     }
 }
 
 fn main(rt: HostRuntime) -> Result<()> {
     print_files(&rt, &CommandCases)
+}
+
+/// Appends the content of a file as a text, or a dash where there is none.
+fn push_content(out: &mut String, content: Option<&[u8]>) -> Result<()> {
+    match content {
+        Some(bytes) => {
+            let text = str::from_utf8(bytes).ok().context("no text")?;
+            write!(out, " {text:?}")?;
+        }
+        None => out.push_str(" -")?,
+    }
+    Ok(())
 }
 
 /// The words of a call, with spaces between them.

@@ -30,6 +30,16 @@ pub fn sink_of(alloc: Global, faults: &str) -> Result<MemSink> {
     }
 }
 
+/// The name behind `shows=`, if there is one.
+pub fn shown_in(faults: &str) -> Option<&str> {
+    for fault in faults.split_whitespace() {
+        if let Some(name) = fault.strip_prefix("shows=") {
+            return Some(name);
+        }
+    }
+    None
+}
+
 /// The numbers behind a word in a list of faults, commas between them; none where it is not there.
 fn numbers_behind(alloc: Global, faults: &str, word: &str) -> Result<Vec<u64>> {
     let mut numbers = Vec::new(alloc);

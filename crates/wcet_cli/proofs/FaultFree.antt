@@ -1,16 +1,21 @@
 -- Replies that do not say that the store failed.
-use Rattle.std.proofs.Common.{◌≡◌, ◌⊎◌, ℕ, inl, inr, List, [], ◌∷◌, sym, subst}
+use Rattle.std.proofs.Common.{◌≡◌, ◌⊎◌, ℕ, inl, inr, List, [], ◌∷◌, ◌++◌, sym, ◌∙◌, subst}
 use Rattle.wcet_front.specs.declared.inputs.InputTexts.{InputTexts}
 use Rattle.wcet_front.specs.declared.reply.Reply.{Reply}
 use Rattle.wcet_front.specs.declared.reply.Reply.TheVariants as reply
 use Rattle.wcet_front.specs.Reply.{IsNoFault}
 use Rattle.wcet_front.specs.Inputs.{IsInputsRefusal}
 use Rattle.wcet_front.specs.Stages.{refused, passed}
-use Rattle.wcet_front.specs.Files.{Reads, ReadsFail, IsUnread, failed, missing, long, ReadsAndReplies, unread, replied}
+use Rattle.wx_host.specs.Outside.{Rose}
+use Rattle.wx_host.specs.MemStore.{HeldFile}
+use Rattle.wcet_front.specs.StoreUse.{StoreUse}
+use Rattle.wcet_front.specs.Files.{Reads, reads_in, ReadsFail, IsUnread, failed, missing, long}
+use Rattle.wcet_front.specs.Writing.{file_of, IsUnwritten, unread, unwritten, worked}
 use Rattle.wcet_cli.specs.Words.{RunWords}
 use Rattle.wcet_cli.specs.FlatCommand.{FlatReply, FlatReplies, bound, leaves_code, unsupported}
 use Rattle.wcet_cli.specs.RunCommand.{RunReply, RunReplies}
-use Rattle.wcet_cli.specs.Commands.{Form, Flat, Run, Replies}
+use Rattle.wcet_cli.specs.MigrateCommand.{MigrateDeed, migrates, refuses}
+use Rattle.wcet_cli.specs.Commands.{Form, Flat, Run, Migrate, IsForm, written_by, Does, WriteNothing}
 use Rattle.wcet_cli.specs.Call.{HasCause, NoForm, OfForm}
 
 -- a reply that is none of a fault is none
@@ -34,28 +39,59 @@ run_free w texts start said (passed inputs told (passed entry is (refused h))) =
 run_free w texts start said (passed inputs told (passed entry is (passed begin begins (refused h)))) = free said _ h.2 tt
 run_free w texts start said (passed inputs told (passed entry is (passed begin begins (passed program sound e)))) = free said _ e tt
 
-replies_free : (form : Form) (contents : List (List ℕ)) (said : Reply) → Replies form contents said → IsNoFault said
-replies_free (Flat code) [] said h = absurd h
-replies_free (Flat code) (bytes ∷ []) said h = flat_free bytes said h
-replies_free (Flat code) (bytes ∷ other ∷ contents) said h = absurd h
-replies_free (Run w) [] said h = absurd h
-replies_free (Run w) (image ∷ []) said h = absurd h
-replies_free (Run w) (image ∷ facts ∷ []) said h = absurd h
-replies_free (Run w) (image ∷ facts ∷ machine ∷ []) said h = absurd h
-replies_free (Run w) (image ∷ facts ∷ machine ∷ start ∷ []) said h = run_free w (record { image = image; facts = facts; machine = machine }) start said h
-replies_free (Run w) (image ∷ facts ∷ machine ∷ start ∷ other ∷ contents) said h = absurd h
+migrate_free : (target bytes : List ℕ) (files : List HeldFile) (said : Reply) → MigrateDeed target bytes files said → IsNoFault said
+migrate_free target bytes files said (migrates c text vectors is f e) = free said _ e tt
+migrate_free target bytes files said (refuses r f) = free said _ r.3 tt
+
+does_free : (form : Form) (contents : List (List ℕ)) (files : List HeldFile) (said : Reply) → Does form contents files said → IsNoFault said
+does_free (Flat code) [] files said h = absurd h.says
+does_free (Flat code) (bytes ∷ []) files said h = flat_free bytes said h.says
+does_free (Flat code) (bytes ∷ other ∷ contents) files said h = absurd h.says
+does_free (Run w) [] files said h = absurd h.says
+does_free (Run w) (image ∷ []) files said h = absurd h.says
+does_free (Run w) (image ∷ facts ∷ []) files said h = absurd h.says
+does_free (Run w) (image ∷ facts ∷ machine ∷ []) files said h = absurd h.says
+does_free (Run w) (image ∷ facts ∷ machine ∷ start ∷ []) files said h = run_free w (record { image = image; facts = facts; machine = machine }) start said h.says
+does_free (Run w) (image ∷ facts ∷ machine ∷ start ∷ other ∷ contents) files said h = absurd h.says
+does_free (Migrate w) [] files said h = absurd h
+does_free (Migrate w) (bytes ∷ []) files said h = migrate_free w.target bytes files said h
+does_free (Migrate w) (bytes ∷ other ∷ contents) files said h = absurd h
+
+-- a command that writes nothing has no files to write
+none_to_write : (form : Form) (contents : List (List ℕ)) (files : List HeldFile) (said : Reply) → Does form contents files said → written_by form ≡ [] → files ≡ []
+none_to_write (Flat code) contents files said h none = h.none
+none_to_write (Run w) contents files said h none = h.none
+none_to_write (Migrate w) contents files said h none = absurd (some none)
+  where
+    some : {x : List ℕ} {xs : List (List ℕ)} → x ∷ xs ≡ [] → ⊥
+    some e = cc
+
+no_file : (front rest : List HeldFile) (file : HeldFile) → [] ≡ front ++ file ∷ rest → ⊥
+no_file [] rest file e = cc
+no_file (x ∷ front) rest file e = cc
 
 unread_free : (reads : Reads) (name : List ℕ) (said : Reply) → IsUnread reads name said → (ReadsFail reads → ⊥) → IsNoFault said
 unread_free reads name said (failed rose e) none = absurd (none rose)
 unread_free reads name said (missing gone e) none = free said _ e tt
 unread_free reads name said (long bytes cut e) none = free said _ e tt
 
-fault_free : (reads : Reads) (words : List (List ℕ)) (said : Reply) → HasCause reads words said → (ReadsFail reads → ⊥) → IsNoFault said
-fault_free reads words said (NoForm unfit asked e) none = free said _ e tt
-fault_free reads words said (OfForm form is (unread f)) none = unread_free reads f.name said f.unread none
-fault_free reads words said (OfForm form is (replied contents are h)) none = replies_free form contents said h
+-- the store failed in no write, or there is none
+abbrev pub NoWriteFails : StoreUse → List (List ℕ) → Type 0
+NoWriteFails used words = WriteNothing words ⊎ (Rose used.before.writes.faults used.after.writes.faults → ⊥)
 
--- no fault of the store's reads rose, or none can
-pub no_fault : (reads : Reads) (words : List (List ℕ)) (said : Reply) (reliable : Type 0) → HasCause reads words said → (reliable → IsNoFault said) → reliable ⊎ (ReadsFail reads → ⊥) → IsNoFault said
-no_fault reads words said reliable cause sound (inl r) = sound r
-no_fault reads words said reliable cause sound (inr none) = fault_free reads words said cause none
+unwritten_free : (used : StoreUse) (words : List (List ℕ)) (form : Form) (contents : List (List ℕ)) (files : List HeldFile) (meant : Reply) (name : List ℕ) → IsForm words form → Does form contents files meant → IsUnwritten used files name → NoWriteFails used words → ⊥
+unwritten_free used words form contents files meant name is h stop (inl nothing) =
+    no_file stop.front stop.rest (file_of name stop.bytes) (sym (none_to_write form contents files meant h (nothing form is)) ∙ stop.files_are)
+unwritten_free used words form contents files meant name is h stop (inr none) = none stop.rose
+
+fault_free : (used : StoreUse) (words : List (List ℕ)) (said : Reply) → HasCause used words said → (ReadsFail (reads_in used) → ⊥) → NoWriteFails used words → IsNoFault said
+fault_free used words said (NoForm unfit asked untouched e) none fine = free said _ e tt
+fault_free used words said (OfForm form is (unread untouched f)) none fine = unread_free (reads_in used) f.name said f.unread none
+fault_free used words said (OfForm form is (unwritten contents files meant are h f)) none fine = absurd (unwritten_free used words form contents files meant f.name is h f.unwritten fine)
+fault_free used words said (OfForm form is (worked contents files are h wrote)) none fine = does_free form contents files said h
+
+-- no fault of the store rose, or none can
+pub no_fault : (used : StoreUse) (words : List (List ℕ)) (said : Reply) (reliable : Type 0) → HasCause used words said → (reliable → IsNoFault said) → reliable ⊎ (ReadsFail (reads_in used) → ⊥) → reliable ⊎ NoWriteFails used words → IsNoFault said
+no_fault used words said reliable cause sound (inl r) fine = sound r
+no_fault used words said reliable cause sound (inr none) (inl r) = sound r
+no_fault used words said reliable cause sound (inr none) (inr fine) = fault_free used words said cause none fine

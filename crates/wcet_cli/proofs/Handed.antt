@@ -5,7 +5,7 @@ use Rattle.run_machine.specs.declared.report.End.{End}
 use Rattle.run_machine.specs.declared.report.End.TheVariants as end
 use Rattle.wcet_front.specs.declared.reply.Reply.{Reply}
 use Rattle.wcet_front.specs.declared.reply.Reply.TheVariants as reply
-use Rattle.wcet_front.specs.Reply.{run_status, status_of, text_of, IsSaid, InFull, Wanting, starved}
+use Rattle.wcet_front.specs.Reply.{run_status, status_of, text_of, IsNoFault, IsSaid, InFull, Wanting, starved}
 use Rattle.wcet_front.specs.Handing.{Took, HandsOver, Whole, Unwritten, Starved}
 use Rattle.wcet_cli.specs.Call.{EndsWith}
 
@@ -15,30 +15,33 @@ run_is_not_three end.Limit s = omega (arith, s)
 run_is_not_three (end.Stopped why address) s = omega (arith, s)
 run_is_not_three (end.Breaks fact address) s = omega (arith, s)
 
--- no reply says that the output failed
-pub not_three : (said : Reply) → status_of said ≡ 3 → ⊥
-not_three (reply.Bound cycles) s = omega (arith, s)
-not_three reply.Usage s = omega (arith, s)
-not_three (reply.Unreadable name) s = omega (arith, s)
-not_three (reply.Missing name) s = omega (arith, s)
-not_three (reply.LeavesCode address) s = omega (arith, s)
-not_three (reply.Unsupported address word) s = omega (arith, s)
-not_three (reply.LongFile name) s = omega (arith, s)
-not_three (reply.BadImage e) s = omega (arith, s)
-not_three (reply.BadFacts e) s = omega (arith, s)
-not_three (reply.BadMachine e) s = omega (arith, s)
-not_three (reply.NoEntry name) s = omega (arith, s)
-not_three (reply.BadStart e) s = omega (arith, s)
-not_three (reply.BadFlow e) s = omega (arith, s)
-not_three (reply.Ran report) s = run_is_not_three report.end s
+-- no reply but one of a write that fails has the status of an output that fails
+pub not_three : (said : Reply) → IsNoFault said → status_of said ≡ 3 → ⊥
+not_three (reply.Bound cycles) fine s = omega (arith, s)
+not_three reply.Usage fine s = omega (arith, s)
+not_three (reply.Missing name) fine s = omega (arith, s)
+not_three (reply.LeavesCode address) fine s = omega (arith, s)
+not_three (reply.Unsupported address word) fine s = omega (arith, s)
+not_three (reply.LongFile name) fine s = omega (arith, s)
+not_three (reply.BadImage e) fine s = omega (arith, s)
+not_three (reply.BadFacts e) fine s = omega (arith, s)
+not_three (reply.BadMachine e) fine s = omega (arith, s)
+not_three (reply.NoEntry name) fine s = omega (arith, s)
+not_three (reply.BadStart e) fine s = omega (arith, s)
+not_three (reply.BadFlow e) fine s = omega (arith, s)
+not_three (reply.Unreadable name) fine s = omega (arith, s)
+not_three (reply.BadCertificate e) fine s = omega (arith, s)
+not_three (reply.Migrated nodes vectors) fine s = omega (arith, s)
+not_three (reply.Unwritten name) fine s = absurd fine
+not_three (reply.Ran report) fine s = run_is_not_three report.end s
 
-said_is_not_three : (said : Reply) (status : ℕ) (text : List ℕ) → IsSaid said status text → status ≡ 3 → ⊥
-said_is_not_three said status text (InFull s t) e = not_three said (sym s ∙ e)
-said_is_not_three said status text (Wanting s t) e = omega (arith, s, e)
+said_is_not_three : (said : Reply) (status : ℕ) (text : List ℕ) → IsNoFault said → IsSaid said status text → status ≡ 3 → ⊥
+said_is_not_three said status text fine (InFull s t) e = not_three said fine (sym s ∙ e)
+said_is_not_three said status text fine (Wanting s t) e = omega (arith, s, e)
 
 module _ (taken taken' : Option (List ℕ)) (faults faults' ends : ℕ) where
-  -- where another status came than that of an output that fails, the output failed only if it says so
-  pub three_rose : (status : ℕ) (text : List ℕ) → HandsOver taken taken' faults faults' status text ends → (status ≡ 3 → ⊥) → ends ≡ 3 → Rose faults faults'
+  -- where another status was to come than that of an output that fails, the output failed only if it says so
+  three_rose : (status : ℕ) (text : List ℕ) → HandsOver taken taken' faults faults' status text ends → (status ≡ 3 → ⊥) → ends ≡ 3 → Rose faults faults'
   three_rose status text (Whole e took same) fine three = absurd (fine (sym e ∙ three))
   three_rose status text (Unwritten e took rose) fine three = rose
   three_rose status text (Starved e took same) fine three = absurd (omega (arith, e, three))
@@ -60,10 +63,10 @@ module _ (taken taken' : Option (List ℕ)) (faults faults' ends : ℕ) where
   said_ends status text said is (Starved e took same) fine = inl e
 
   -- the due reply ends the call
-  pub due_ends : (reliable : Type 0) (said due : Reply) → (status : ℕ) × (text : List ℕ) × IsSaid said status text × HandsOver taken taken' faults faults' status text ends → (reliable → ends ≡ 3 → ⊥) → reliable ⊎ (Rose faults faults' → ⊥) → said ≡ due → EndsWith taken taken' due ends
-  due_ends reliable said due (status, text, is, hands) sound fine same =
+  pub due_ends : (reliable : Type 0) (said due : Reply) → IsNoFault said → (status : ℕ) × (text : List ℕ) × IsSaid said status text × HandsOver taken taken' faults faults' status text ends → (reliable → IsNoFault said → ends ≡ 3 → ⊥) → reliable ⊎ (Rose faults faults' → ⊥) → said ≡ due → EndsWith taken taken' due ends
+  due_ends reliable said due free (status, text, is, hands) sound fine same =
       subst (λ r. EndsWith taken taken' r ends) same
-      (said_ends status text said is hands (not_unwritten status text reliable hands (said_is_not_three said status text is) sound fine))
+      (said_ends status text said is hands (not_unwritten status text reliable hands (said_is_not_three said status text free is) (λ r. sound r free) fine))
 
   -- where memory is wanting, so is the answer
   pub wanting_ends : (text : List ℕ) (reliable : Type 0) (due : Reply) → HandsOver taken taken' faults faults' starved text ends → (reliable → ends ≡ 3 → ⊥) → reliable ⊎ (Rose faults faults' → ⊥) → EndsWith taken taken' due ends

@@ -8,6 +8,7 @@ pub mod Reading
 pub mod OneForm
 pub mod FaultFree
 pub mod RunDue
+pub mod Migrating
 pub mod Answering
 pub mod Handed
 pub mod Ends

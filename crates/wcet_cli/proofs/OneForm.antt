@@ -5,10 +5,14 @@ use Rattle.std.specs.Str.Parse.{digits_value}
 use Rattle.std.specs.Fmt.{decimal}
 use Rattle.std.proofs.lemmas.Fmt.{decimal_is_IsNumeral}
 use Rattle.wcet_front.specs.declared.reply.Reply.{Reply}
-use Rattle.wcet_front.specs.Files.{Reads, ReadsAndReplies}
-use Rattle.wcet_cli.specs.Words.{IsFlat, RunWords, IsRun, entry_words, most_steps}
-use Rattle.wcet_cli.specs.Commands.{Form, Flat, Run, IsForm, FitsForm, files_of, Replies, AreNamed, by_form, by_none}
-use Rattle.wcet_cli.specs.Call.{HasCause, NoForm, OfForm}
+use Rattle.wcet_front.specs.declared.reply.Reply.TheVariants as reply
+use Rattle.wx_host.specs.Outside.{Contents}
+use Rattle.wcet_front.specs.Files.{reads_of, ReadsAndReplies}
+use Rattle.wcet_front.specs.Writing.{RepliesOf}
+use Rattle.wcet_cli.specs.Words.{RunWords, IsRun, entry_words, most_steps, MigrateWords, IsMigrate}
+use Rattle.wcet_cli.specs.Commands.{Form, Flat, Run, Migrate, IsForm, FitsForm, files_of, written_by, Does, AreNamed, by_form, by_none, AreWrittenBy, to_form, to_none}
+use Rattle.wcet_cli.specs.Call as call
+use Rattle.wcet_cli.specs.Call.{IsCalledFor}
 
 one_number : (m n : ℕ) → m ≤ most_steps → n ≤ most_steps → decimal m ≡ decimal n → m ≡ n
 one_number m n p q e =
@@ -52,30 +56,74 @@ one_run words v w p q =
     let entry = one_entry v.entry w.entry s.entry in
     λ i. record { image = s.image i; facts = s.facts i; machine = s.machine i; start = s.start i; steps = steps i; entry = entry i }
 
-flat_is_not_run : (words : List (List ℕ)) (name : List ℕ) (w : RunWords) → IsFlat words name → IsRun words w → ⊥
-flat_is_not_run words name w is run = let e = sym is ∙ run.are in let f : codes "flat" ≡ codes "run" = first e in differ f
-  where
-    differ : codes "flat" ≡ codes "run" → ⊥
-    differ e = cc
+one_migrate : (words : List (List ℕ)) (v w : MigrateWords) → IsMigrate words v → IsMigrate words w → v ≡ w
+one_migrate words v w p q =
+    let e = later (sym p ∙ q) in
+    let source = first e in
+    let target = first (later e) in
+    λ i. record { source = source i; target = target i }
+
+-- the first word of a command
+abbrev verb_of : Form → List ℕ
+verb_of (Flat code) = codes "flat"
+verb_of (Run w) = codes "run"
+verb_of (Migrate w) = codes "migrate"
+
+abbrev first_word : List (List ℕ) → List ℕ
+first_word [] = []
+first_word (word ∷ words) = word
+
+says_verb : (words : List (List ℕ)) (form : Form) → IsForm words form → first_word words ≡ verb_of form
+says_verb words (Flat code) is = ap first_word is
+says_verb words (Run w) is = ap first_word is.are
+says_verb words (Migrate w) is = ap first_word is
+
+same_verb : (words : List (List ℕ)) (f g : Form) → IsForm words f → IsForm words g → verb_of f ≡ verb_of g
+same_verb words f g p q = sym (says_verb words f p) ∙ says_verb words g q
+
+flat_run : codes "flat" ≡ codes "run" → ⊥
+flat_run e = cc
+
+flat_migrate : codes "flat" ≡ codes "migrate" → ⊥
+flat_migrate e = cc
+
+run_migrate : codes "run" ≡ codes "migrate" → ⊥
+run_migrate e = cc
 
 pub one_form : (words : List (List ℕ)) (f g : Form) → IsForm words f → IsForm words g → f ≡ g
 one_form words (Flat a) (Flat b) p q = ap Flat (first (later (sym p ∙ q)))
-one_form words (Flat a) (Run w) p q = absurd (flat_is_not_run words a w p q)
-one_form words (Run v) (Flat b) p q = absurd (flat_is_not_run words b v q p)
+one_form words (Flat a) (Run w) p q = absurd (flat_run (same_verb words (Flat a) (Run w) p q))
+one_form words (Flat a) (Migrate w) p q = absurd (flat_migrate (same_verb words (Flat a) (Migrate w) p q))
+one_form words (Run v) (Flat b) p q = absurd (flat_run (same_verb words (Flat b) (Run v) q p))
 one_form words (Run v) (Run w) p q = ap Run (one_run words v w p q)
+one_form words (Run v) (Migrate w) p q = absurd (run_migrate (same_verb words (Run v) (Migrate w) p q))
+one_form words (Migrate v) (Flat b) p q = absurd (flat_migrate (same_verb words (Flat b) (Migrate v) q p))
+one_form words (Migrate v) (Run w) p q = absurd (run_migrate (same_verb words (Run w) (Migrate v) q p))
+one_form words (Migrate v) (Migrate w) p q = ap Migrate (one_migrate words v w p q)
 
 -- the files that words name are those of their command
 pub named_by : (words names : List (List ℕ)) (form : Form) → IsForm words form → AreNamed words names → names ≡ files_of form
 named_by words names form is (by_form other is_other e) = e ∙ ap files_of (one_form words other form is_other is)
 named_by words names form is (by_none unfit e) = absurd (unfit (record { form = form; is = is }))
 
+-- the files that words write are those that their command writes
+pub written_is : (words names : List (List ℕ)) (form : Form) → IsForm words form → AreWrittenBy words names → names ≡ written_by form
+written_is words names form is (to_form other is_other e) = e ∙ ap written_by (one_form words other form is_other is)
+written_is words names form is (to_none unfit e) = absurd (unfit (record { form = form; is = is }))
+
 -- words of no form name none
 pub none_named : (words names : List (List ℕ)) → ¬ FitsForm words → AreNamed words names → names ≡ []
 none_named words names unfit (by_form form is e) = absurd (unfit (record { form = form; is = is }))
 none_named words names unfit (by_none other e) = e
 
--- the cause of a reply to the words of a command is one of that command
-pub cause_of : (reads : Reads) (words : List (List ℕ)) (form : Form) (said : Reply) → IsForm words form → HasCause reads words said → ReadsAndReplies reads (files_of form) (Replies form) said
-cause_of reads words form said is (NoForm unfit asked e) = absurd (unfit (record { form = form; is = is }))
-cause_of reads words form said is (OfForm other is_other cause) =
-    subst (λ f. ReadsAndReplies reads (files_of f) (Replies f) said) (one_form words other form is_other is) cause
+-- the reply that the words of a command call for is one of that command
+pub called_of : (contents : Contents) (words : List (List ℕ)) (form : Form) (said : Reply) → IsForm words form → IsCalledFor contents words said
+    → ReadsAndReplies (reads_of contents) (files_of form) (RepliesOf (Does form)) said
+called_of contents words form said is (call.by_none unfit e) = absurd (unfit (record { form = form; is = is }))
+called_of contents words form said is (call.by_form other is_other cause) =
+    subst (λ f. ReadsAndReplies (reads_of contents) (files_of f) (RepliesOf (Does f)) said) (one_form words other form is_other is) cause
+
+-- words of no form call for one reply
+pub none_called : (contents : Contents) (words : List (List ℕ)) (said : Reply) → ¬ FitsForm words → IsCalledFor contents words said → said ≡ reply.Usage
+none_called contents words said unfit (call.by_none other e) = e
+none_called contents words said unfit (call.by_form form is cause) = absurd (unfit (record { form = form; is = is }))

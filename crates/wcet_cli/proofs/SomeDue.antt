@@ -16,12 +16,14 @@ use Rattle.wcet_front.specs.declared.reply.Reply.TheVariants as reply
 use Rattle.wcet_front.specs.Reply.{IsNoFault}
 use Rattle.wcet_front.specs.Files.{reads_of, missing, long, IsComeTo, AreRead, ReadsAndReplies, unread, replied}
 use Rattle.wcet_front.specs.FileLaws.{unread_is_due, reply_is_due}
+use Rattle.wcet_front.specs.Writing.{RepliesOf}
+use Rattle.wcet_front.specs.WritingLaws.{only_due, due_only}
 use Rattle.wcet_cli.specs.Straight.{is_plain_alu, origin, IsPlain, IsLast, bytes_of, address_behind, IsProgram, IsCutOff, IsForeign, bound_of}
 use Rattle.wcet_cli.specs.Words.{IsFlat}
 use Rattle.wcet_cli.specs.FlatCommand.{FlatReplies, bound, leaves_code, unsupported}
-use Rattle.wcet_cli.specs.Commands.{Form, Flat, Run, IsForm, FitsForm, files_of, Replies}
-use Rattle.wcet_cli.specs.Call.{IsNoRun, HasCause, NoForm, OfForm, AreBytes, IsDue}
-use Rattle.wcet_cli.proofs.OneForm.{cause_of}
+use Rattle.wcet_cli.specs.Commands.{Form, Flat, Run, Migrate, IsForm, FitsForm, files_of, Does}
+use Rattle.wcet_cli.specs.Call.{IsOther, IsCalledFor, by_none, by_form, AreBytes, IsDue}
+use Rattle.wcet_cli.proofs.OneForm.{called_of}
 use Rattle.wcet_cli.proofs.Reading.{one_flat_reply}
 
 -- how the words of some bytes go, from a number of words on
@@ -198,27 +200,28 @@ form (w ∷ name ∷ []) = by_test (bytes_eq w (codes "flat")) refl
         no p q = cc
 form (w ∷ name ∷ x ∷ words) = inr (λ f. let e = f.1 in cc)
 
--- words that are neither those of `flat` nor those of `run` fit no form
-no_form : (words : List (List ℕ)) → IsNoRun words → (HasName words → ⊥) → FitsForm words → ⊥
-no_form words no_run none fits = by_form fits.form fits.is
+-- words that are neither those of `flat` nor those of another command fit no form
+no_form : (words : List (List ℕ)) → IsOther words → (HasName words → ⊥) → FitsForm words → ⊥
+no_form words other none fits = by_command fits.form fits.is
   where
-    by_form : (form : Form) → IsForm words form → ⊥
-    by_form (Flat name) is = none (name, is)
-    by_form (Run w) is = no_run w is
+    by_command : (form : Form) → IsForm words form → ⊥
+    by_command (Flat name) is = none (name, is)
+    by_command (Run w) is = other.no_run w is
+    by_command (Migrate w) is = other.no_migrate w is
 
 -- some reply is due
-pub some_is_due : (contents : Contents) (words : List (List ℕ)) → IsNoRun words → AreBytes contents → (due : Reply) × IsDue contents words due
-some_is_due contents words no_run all =
+pub some_is_due : (contents : Contents) (words : List (List ℕ)) → IsOther words → AreBytes contents → (due : Reply) × IsDue contents words due
+some_is_due contents words other all =
     ⊎_elim
     (λ (fits : HasName words).
     let d = of_content contents fits.0 (contents fits.0) refl all in
-    (d.due, record { cause = OfForm (Flat fits.0) fits.1 d.cause; free = d.free }))
-    (λ (none : HasName words → ⊥). (reply.Usage, record { cause = NoForm (no_form words no_run none) refl refl; free = tt }))
+    (d.due, record { cause = by_form (Flat fits.0) fits.1 (due_only _ _ FlatReplies d.due d.cause); free = d.free }))
+    (λ (none : HasName words → ⊥). (reply.Usage, record { cause = by_none (no_form words other none) refl; free = tt }))
     (form words)
 
 -- and no other
-pub one_is_due : (contents : Contents) (words : List (List ℕ)) (r s : Reply) → IsNoRun words → IsDue contents words r → IsDue contents words s → r ≡ s
-one_is_due contents words r s no_run p q = by_cause p.cause q.cause
+pub one_is_due : (contents : Contents) (words : List (List ℕ)) (r s : Reply) → IsOther words → IsDue contents words r → IsDue contents words s → r ≡ s
+one_is_due contents words r s other_words p q = by_cause p.cause q.cause
   where
     flat_one : (name : List ℕ) → ReadsAndReplies (reads_of contents) (name ∷ []) FlatReplies r → ReadsAndReplies (reads_of contents) (name ∷ []) FlatReplies s → r ≡ s
     flat_one name (unread f) other = unread_is_due contents _ _ _ (name ∷ []) FlatReplies r s refl f other p.free q.free
@@ -227,11 +230,12 @@ one_is_due contents words r s no_run p q = by_cause p.cause q.cause
         one_flat_reply bytes r s cause (reply_is_due contents _ _ _ (name ∷ []) (bytes ∷ []) FlatReplies s refl are other q.free)
     flat_one name (replied (bytes ∷ more ∷ have) are cause) other = absurd cause
 
-    by_form : (form : Form) → IsForm words form → ReadsAndReplies (reads_of contents) (files_of form) (Replies form) r → ReadsAndReplies (reads_of contents) (files_of form) (Replies form) s → r ≡ s
-    by_form (Flat name) is cause other = flat_one name cause other
-    by_form (Run w) is cause other = absurd (no_run w is)
+    by_command : (form : Form) → IsForm words form → ReadsAndReplies (reads_of contents) (files_of form) (RepliesOf (Does form)) r → ReadsAndReplies (reads_of contents) (files_of form) (RepliesOf (Does form)) s → r ≡ s
+    by_command (Flat name) is cause other = flat_one name (only_due _ _ FlatReplies r cause) (only_due _ _ FlatReplies s other)
+    by_command (Run w) is cause other = absurd (other_words.no_run w is)
+    by_command (Migrate w) is cause other = absurd (other_words.no_migrate w is)
 
-    by_cause : HasCause (reads_of contents) words r → HasCause (reads_of contents) words s → r ≡ s
-    by_cause (NoForm unfit asked e) (NoForm unfit' asked' f) = e ∙ sym f
-    by_cause (NoForm unfit asked e) (OfForm form is cause) = absurd (unfit (record { form = form; is = is }))
-    by_cause (OfForm form is cause) other = by_form form is cause (cause_of (reads_of contents) words form s is other)
+    by_cause : IsCalledFor contents words r → IsCalledFor contents words s → r ≡ s
+    by_cause (by_none unfit e) (by_none unfit' f) = e ∙ sym f
+    by_cause (by_none unfit e) (by_form form is cause) = absurd (unfit (record { form = form; is = is }))
+    by_cause (by_form form is cause) other = by_command form is cause (called_of contents words form s is other)

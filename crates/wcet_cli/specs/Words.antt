@@ -20,6 +20,15 @@ pub record RunWords : Type 0 where
   pub steps : ℕ
   pub entry : Option (List ℕ)
 
+-- the words of `migrate`: the names of the file that is read and of the one that is written
+pub record MigrateWords : Type 0 where
+  pub source : List ℕ
+  pub target : List ℕ
+
+-- the words are `migrate` with these
+abbrev pub IsMigrate : List (List ℕ) → MigrateWords → Type 0
+IsMigrate words w = words ≡ codes "migrate" ∷ w.source ∷ w.target ∷ []
+
 -- the greatest number of instructions that a run may be given
 abbrev pub most_steps : ℕ
 most_steps = 1000000000

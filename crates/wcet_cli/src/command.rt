@@ -2,8 +2,8 @@
 
 ghost use Rattle.std.specs.Prelude.{◌≡◌, ◌↔◌, ◌≤◌, ℕ, List, IsTrue, IfSome, MatchOption, Some, map, string_bytes, option_copied};
 ghost use Rattle.wx_text.specs.Decimal.{decimal};
-ghost use Rattle.wcet_cli.specs.Words.{IsFlat, IsRun, entry_words, most_steps, RunWords};
-ghost use Rattle.wcet_cli.specs.Commands.{FitsForm, IsForm, form_of, run_words};
+ghost use Rattle.wcet_cli.specs.Words.{IsFlat, IsMigrate, IsRun, MigrateWords, RunWords, entry_words, most_steps};
+ghost use Rattle.wcet_cli.specs.Commands.{FitsForm, IsForm, form_of, migrate_words, run_words};
 
 use wcet_front::InputNames;
 use wx_text::read_number;
@@ -18,6 +18,8 @@ pub enum Command<'a> {
     Flat { code: &'a str },
     /// `run` and what it names.
     Run { run: RunCommand<'a> },
+    /// `migrate` and what it names.
+    Migrate { migrate: MigrateCommand<'a> },
 }
 
 /// What the words of `run` name.
@@ -33,6 +35,15 @@ pub struct RunCommand<'a> {
     pub entry: Option<&'a str>,
 }
 
+/// What the words of `migrate` name.
+#[derive(Clone, Copy)]
+pub struct MigrateCommand<'a> {
+    /// The name of the certificate's file.
+    pub source: &'a str,
+    /// The name of the file that is written.
+    pub target: &'a str,
+}
+
 /// The command that the words are; None exactly where they fit no form.
 pub fn command_of(words: &[String]) -> Option<Command<'_>>
     ensures { let said = map string_bytes words.now in
@@ -40,6 +51,9 @@ pub fn command_of(words: &[String]) -> Option<Command<'_>>
 {
     if let Some(code) = flat_code(words) {
         return Some(Command::Flat { code });
+    }
+    if let Some(migrate) = migrate_command(words) {
+        return Some(Command::Migrate { migrate });
     }
     let run = run_command(words)?;
     Some(Command::Run { run })
@@ -55,6 +69,24 @@ fn flat_code(words: &[String]) -> Option<&str>
     };
     if is_word(name.as_str(), "flat") {
         Some(code.as_str())
+    } else {
+        None
+    }
+}
+
+/// What the words name, where they are those of `migrate`.
+fn migrate_command(words: &[String]) -> Option<MigrateCommand<'_>>
+    ensures { let said = map string_bytes words.now in
+        MatchOption result ((w : MigrateWords) → ¬ IsMigrate said w) (λ migrate. IsMigrate said (migrate_words migrate)) }
+{
+    let [name, source, target] = words else {
+        return None;
+    };
+    if is_word(name.as_str(), "migrate") {
+        Some(MigrateCommand {
+            source: source.as_str(),
+            target: target.as_str(),
+        })
     } else {
         None
     }

@@ -3,7 +3,7 @@
 ghost use Rattle.wcet_cli.specs.Call.{SomeReplyIsDue, NoOtherIsDue};
 ghost use Rattle.wcet_cli.specs.Straight.{StraightRunsObey};
 
-/// Whatever the words, unless they are of the form of `run`, and whatever a store holds, exactly one reply is due where nothing
+/// Whatever the words, unless they are of the form of `run` or `migrate`, and whatever a store holds, exactly one reply is due where nothing
 /// fails.
 pub fn one_reply_is_due()
     ensures some { SomeReplyIsDue }

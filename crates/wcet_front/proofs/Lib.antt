@@ -3,3 +3,5 @@ pub mod NoFacts
 pub mod Unread
 pub mod OneStart
 pub mod Putting
+pub mod Unwritten
+pub mod NoCertificate

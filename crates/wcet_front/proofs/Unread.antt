@@ -6,7 +6,8 @@ use Rattle.wx_host.specs.Outside.{Contents, NamesGive, ReadGives}
 use Rattle.wcet_front.specs.declared.reply.Reply.{Reply}
 use Rattle.wcet_front.specs.Growth.{Appends}
 use Rattle.wcet_front.specs.Reply.{IsNoFault}
-use Rattle.wcet_front.specs.Files.{ReadLog, reads_between, IsUnread, failed, missing, long, IsFirstUnread, IsCutShort, IsFaultReply}
+use Rattle.wcet_front.specs.StoreUse.{Log}
+use Rattle.wcet_front.specs.Files.{reads_between, IsUnread, failed, missing, long, IsFirstUnread, IsCutShort, IsFaultReply}
 use Rattle.wcet_front.specs.FileLaws.{appends_nothing}
 
 -- its name was asked for
@@ -16,7 +17,7 @@ asks_for old new name store_fault.Missing other is = is
 asks_for old new name store_fault.Long other is = is
 asks_for old new name store_fault.NoMemory other is = absurd (other refl)
 
-module _ (holds : Option Contents) (before after : ReadLog) (name : List ℕ) where
+module _ (holds : Option Contents) (before after : Log) (name : List ℕ) where
   why : (bytes : List ℕ) (fault : StoreFault) (said : Reply) → ReadGives holds name before.faults after.faults bytes (Err fault) → IsFaultReply name fault said → IsUnread (reads_between holds before after) name said
   why bytes store_fault.Failed said gives is = failed gives.0 is
   why bytes store_fault.Missing said gives is = missing gives.1 is

@@ -6,7 +6,8 @@ use Rattle.wcet_front.specs.declared.reply.Reply.{Reply}
 use Rattle.wcet_front.specs.declared.reply.Reply.TheVariants as reply
 use Rattle.wcet_front.specs.Growth.{Appends}
 use Rattle.wcet_front.specs.Reply.{IsNoFault}
-use Rattle.wcet_front.specs.Files.{ReadLog, Reads, reads_between, reads_of, ReadsFail, AsksFor, IsContent, AreContents, IsUnread, failed, missing, long, IsComeTo, IsFirstUnread, AreRead, IsCutShort, ReadsAndReplies, unread, replied}
+use Rattle.wcet_front.specs.StoreUse.{Log}
+use Rattle.wcet_front.specs.Files.{Reads, reads_between, reads_of, ReadsFail, AsksFor, IsContent, AreContents, IsUnread, failed, missing, long, IsComeTo, IsFirstUnread, AreRead, IsCutShort, ReadsAndReplies, unread, replied}
 
 -- what grew twice grew by both
 pub appends_both : {A : Type 0} (before mid after : Option (List A)) (xs ys : List A) → Appends before mid xs → Appends mid after ys → Appends before after (xs ++ ys)
@@ -34,7 +35,7 @@ rose_from : (before mid after : ℕ) → before ≤ mid → Rose mid after → R
 rose_from before mid after first (inl more) = inl (omega arith)
 rose_from before mid after first (inr last) = inr last
 
-module _ (holds holds' : Option Contents) (start mid end : ReadLog) (same : holds' ≡ holds) where
+module _ (holds holds' : Option Contents) (start mid end : Log) (same : holds' ≡ holds) where
   unread_later : (name : List ℕ) (said : Reply) → start.faults ≤ mid.faults → IsUnread (reads_between holds' mid end) name said → IsUnread (reads_between holds start end) name said
   unread_later name said first (failed rose is) = failed (rose_from start.faults mid.faults end.faults first rose) is
   unread_later name said first (missing none is) = missing (subst (λ h. IsMissing h name) same none) is
@@ -124,12 +125,12 @@ module _ (contents : Contents) where
       let same : a ≡ b ++ rest = some_is e in omega (arith, ap length same, length-append b rest)
 
   -- a file that has its content is read
-  not_unread : (before after : ReadLog) (name bytes : List ℕ) (said : Reply) → IsContent (Some contents) name bytes → IsUnread (reads_between (Some contents) before after) name said → IsNoFault said → ⊥
+  not_unread : (before after : Log) (name bytes : List ℕ) (said : Reply) → IsContent (Some contents) name bytes → IsUnread (reads_between (Some contents) before after) name said → IsNoFault said → ⊥
   not_unread before after name bytes said is (failed rose e) fine = subst IsNoFault e fine
   not_unread before after name bytes said is (missing none e) fine = neither (sym none ∙ is.1)
   not_unread before after name bytes said is (long front cut e) fine = too_long bytes front cut.1.0 is.0 cut.0 cut.1.1 (sym is.1 ∙ cut.1.2)
 
-  one_unread : (before after before' after' : ReadLog) (name : List ℕ) (r s : Reply) → IsUnread (reads_between (Some contents) before after) name r → IsUnread (reads_between (Some contents) before' after') name s → IsNoFault r → IsNoFault s → r ≡ s
+  one_unread : (before after before' after' : Log) (name : List ℕ) (r s : Reply) → IsUnread (reads_between (Some contents) before after) name r → IsUnread (reads_between (Some contents) before' after') name s → IsNoFault r → IsNoFault s → r ≡ s
   one_unread before after before' after' name r s (failed rose e) q p f = absurd (subst IsNoFault e p)
   one_unread before after before' after' name r s (missing none e) (failed rose f) p q = absurd (subst IsNoFault f q)
   one_unread before after before' after' name r s (missing none e) (missing none' f) p q = e ∙ sym f
@@ -139,13 +140,13 @@ module _ (contents : Contents) where
   one_unread before after before' after' name r s (long front cut e) (long front' cut' f) p q = e ∙ sym f
 
   -- behind names with contents stands the first that is not read
-  record StopsAt (before after : ReadLog) (front rest : List (List ℕ)) (name : List ℕ) (said : Reply) : Type 0 where
+  record StopsAt (before after : Log) (front rest : List (List ℕ)) (name : List ℕ) (said : Reply) : Type 0 where
     have : List (List ℕ)
     whole : AreContents (Some contents) front have
     unread_is : IsUnread (reads_between (Some contents) before after) name said
     fine : IsNoFault said
 
-  behind : (before after : ReadLog) (first : List ℕ) (front rest : List (List ℕ)) (name : List ℕ) (said : Reply) → StopsAt before after (first ∷ front) rest name said → ((bytes : List ℕ) × IsContent (Some contents) first bytes) × StopsAt before after front rest name said
+  behind : (before after : Log) (first : List ℕ) (front rest : List (List ℕ)) (name : List ℕ) (said : Reply) → StopsAt before after (first ∷ front) rest name said → ((bytes : List ℕ) × IsContent (Some contents) first bytes) × StopsAt before after front rest name said
   behind before after first front rest name said s = by_contents s.have s.whole
     where
       by_contents : (have : List (List ℕ)) → AreContents (Some contents) (first ∷ front) have → ((bytes : List ℕ) × IsContent (Some contents) first bytes) × StopsAt before after front rest name said
@@ -158,11 +159,11 @@ module _ (contents : Contents) where
   rest_is : {x y : List ℕ} {xs ys : List (List ℕ)} → x ∷ xs ≡ y ∷ ys → xs ≡ ys
   rest_is e = cc
 
-  read_first : (before after : ReadLog) (first name : List ℕ) (rest : List (List ℕ)) (said : Reply) → first ≡ name → (bytes : List ℕ) × IsContent (Some contents) first bytes → StopsAt before after [] rest name said → ⊥
+  read_first : (before after : Log) (first name : List ℕ) (rest : List (List ℕ)) (said : Reply) → first ≡ name → (bytes : List ℕ) × IsContent (Some contents) first bytes → StopsAt before after [] rest name said → ⊥
   read_first before after first name rest said e (bytes, is) s =
       not_unread before after name bytes said (subst (λ n. IsContent (Some contents) n bytes) e is) s.unread_is s.fine
 
-  one_stop : (before after before' after' : ReadLog) (front front' rest rest' : List (List ℕ)) (name name' : List ℕ) (r s : Reply) → front ++ name ∷ rest ≡ front' ++ name' ∷ rest' → StopsAt before after front rest name r → StopsAt before' after' front' rest' name' s → r ≡ s
+  one_stop : (before after before' after' : Log) (front front' rest rest' : List (List ℕ)) (name name' : List ℕ) (r s : Reply) → front ++ name ∷ rest ≡ front' ++ name' ∷ rest' → StopsAt before after front rest name r → StopsAt before' after' front' rest' name' s → r ≡ s
   one_stop before after before' after' [] [] rest rest' name name' r s e p q =
       one_unread before after before' after' name r s p.unread_is (subst (λ n. IsUnread (reads_between (Some contents) before' after') n s) (sym (first_is e)) q.unread_is) p.fine q.fine
   one_stop before after before' after' [] (x ∷ front') rest rest' name name' r s e p q =
@@ -172,7 +173,7 @@ module _ (contents : Contents) where
   one_stop before after before' after' (x ∷ front) (y ∷ front') rest rest' name name' r s e p q =
       one_stop before after before' after' front front' rest rest' name name' r s (rest_is e) (behind before after x front rest name r p).1 (behind before' after' y front' rest' name' s q).1
 
-  stops_at : (before after : ReadLog) (names : List (List ℕ)) (said : Reply) (f : IsFirstUnread (reads_between (Some contents) before after) names said) → IsNoFault said → StopsAt before after f.come.front f.come.rest f.name said
+  stops_at : (before after : Log) (names : List (List ℕ)) (said : Reply) (f : IsFirstUnread (reads_between (Some contents) before after) names said) → IsNoFault said → StopsAt before after f.come.front f.come.rest f.name said
   stops_at before after names said f fine = record { have = f.come.contents; whole = f.come.whole; unread_is = f.unread; fine = fine }
 
   none_left : (front rest : List (List ℕ)) (name : List ℕ) → [] ≡ front ++ name ∷ rest → ⊥
@@ -180,7 +181,7 @@ module _ (contents : Contents) where
   none_left (x ∷ front) rest name e = cc
 
   -- files that all have contents are read
-  all_read : (before after : ReadLog) (names have front rest : List (List ℕ)) (name : List ℕ) (said : Reply) → AreContents (Some contents) names have → names ≡ front ++ name ∷ rest → StopsAt before after front rest name said → ⊥
+  all_read : (before after : Log) (names have front rest : List (List ℕ)) (name : List ℕ) (said : Reply) → AreContents (Some contents) names have → names ≡ front ++ name ∷ rest → StopsAt before after front rest name said → ⊥
   all_read before after [] have front rest name said are e s = none_left front rest name e
   all_read before after (x ∷ names) [] front rest name said are e s = absurd are
   all_read before after (x ∷ names) (bytes ∷ have) [] rest name said are e s = read_first before after x name rest said (first_is e) (bytes, are.0) s
@@ -188,7 +189,7 @@ module _ (contents : Contents) where
       all_read before after names have front rest name said are.1 (rest_is e) (behind before after y front rest name said s).1
 
   -- Of a store that tells its contents and does not fail: where a file is not read, that is the reply that is due.
-  pub unread_is_due : (holds : Option Contents) (before after : ReadLog) (names : List (List ℕ)) (replies : List (List ℕ) → Reply → Type 0) (r due : Reply) → holds ≡ Some contents → IsFirstUnread (reads_between holds before after) names r → ReadsAndReplies (reads_of contents) names replies due → IsNoFault r → IsNoFault due → r ≡ due
+  pub unread_is_due : (holds : Option Contents) (before after : Log) (names : List (List ℕ)) (replies : List (List ℕ) → Reply → Type 0) (r due : Reply) → holds ≡ Some contents → IsFirstUnread (reads_between holds before after) names r → ReadsAndReplies (reads_of contents) names replies due → IsNoFault r → IsNoFault due → r ≡ due
   unread_is_due holds before after names replies r due told is (unread other) p q =
       let f : IsFirstUnread (reads_between (Some contents) before after) names r = subst (λ h. IsFirstUnread (reads_between h before after) names r) told is in
       one_stop before after _ _ f.come.front other.come.front f.come.rest other.come.rest f.name other.name r due (sym f.come.names_are ∙ other.come.names_are)
@@ -198,7 +199,7 @@ module _ (contents : Contents) where
       absurd (all_read before after names have f.come.front f.come.rest f.name r are.whole f.come.names_are (stops_at before after names r f p))
 
   -- Where all files are read, the reply that is due is one to their contents.
-  pub reply_is_due : (holds : Option Contents) (before after : ReadLog) (names have : List (List ℕ)) (replies : List (List ℕ) → Reply → Type 0) (due : Reply) → holds ≡ Some contents → AreRead (reads_between holds before after) names have → ReadsAndReplies (reads_of contents) names replies due → IsNoFault due → replies have due
+  pub reply_is_due : (holds : Option Contents) (before after : Log) (names have : List (List ℕ)) (replies : List (List ℕ) → Reply → Type 0) (due : Reply) → holds ≡ Some contents → AreRead (reads_between holds before after) names have → ReadsAndReplies (reads_of contents) names replies due → IsNoFault due → replies have due
   reply_is_due holds before after names have replies due told are (unread other) q =
       let w : AreContents (Some contents) names have = subst (λ h. AreContents h names have) told are.whole in
       absurd (all_read _ _ names have other.come.front other.come.rest other.name due w other.come.names_are (stops_at _ _ names due other q))

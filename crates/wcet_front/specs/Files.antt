@@ -6,27 +6,24 @@ use Rattle.wx_host.specs.declared.store.StoreFault.TheVariants as store_fault
 use Rattle.wcet_front.specs.declared.reply.Reply.{Reply}
 use Rattle.wcet_front.specs.declared.reply.Reply.TheVariants as reply
 use Rattle.wcet_front.specs.Growth.{Appends}
-
--- what a store tells of its reads so far: how many failed, and their names in order, where it tells these
-pub record ReadLog : Type 0 where
-  pub faults : ℕ
-  pub names : Option (List (List ℕ))
-
-abbrev pub read_log : ℕ → Option (List (List ℕ)) → ReadLog
-read_log faults names = record { faults = faults; names = names }
+use Rattle.wcet_front.specs.StoreUse.{Log, log_of, StoreUse}
 
 -- what a call may know of its store: what it holds, and its reads before and after the call
 pub record Reads : Type 0 where
   pub holds : Option Contents
-  pub before : ReadLog
-  pub after : ReadLog
+  pub before : Log
+  pub after : Log
 
-abbrev pub reads_between : Option Contents → ReadLog → ReadLog → Reads
+abbrev pub reads_between : Option Contents → Log → Log → Reads
 reads_between holds before after = record { holds = holds; before = before; after = after }
+
+-- the reads of a call
+abbrev pub reads_in : StoreUse → Reads
+reads_in used = reads_between used.before.holds used.before.reads used.after.reads
 
 -- of a store with these contents that tells no names, and none of whose reads fails
 abbrev pub reads_of : Contents → Reads
-reads_of contents = reads_between (Some contents) (read_log 0 None) (read_log 0 None)
+reads_of contents = reads_between (Some contents) (log_of 0 None) (log_of 0 None)
 
 -- the store failed in a read
 abbrev pub ReadsFail : Reads → Type 0

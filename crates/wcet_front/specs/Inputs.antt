@@ -1,4 +1,4 @@
--- The stages that most commands begin with: an image, facts on it, a machine and an entry; and its flow, from there. This project's own.
+-- The stages that most commands begin with: an image, facts on it, a machine and an entry; and its flow, from there; and certificates. This project's own.
 use Rattle.std.specs.Prelude.{◌≡◌, ◌≢◌, ℕ, List, Option, Some, None, length}
 use Rattle.wx_base.specs.declared.facts.Facts.{Facts}
 use Rattle.wx_base.specs.declared.image.Image.{Image}
@@ -22,6 +22,9 @@ use Rattle.start_file.specs.declared.start_error.StartError.TheVariants as start
 use Rattle.start_file.specs.declared.start_state.Start.{Start}
 use Rattle.start_file.specs.StartRefusal as start
 use Rattle.start_file.specs.StartState.{start_of}
+use Rattle.cert_text.specs.declared.cert_error.CertError.{CertError}
+use Rattle.cert_text.specs.declared.cert_error.CertError.TheVariants as cert_error
+use Rattle.cert_text.specs.Text as cert
 use Rattle.wcet_front.specs.declared.inputs.InputTexts.{InputTexts}
 use Rattle.wcet_front.specs.declared.inputs.Inputs.{Inputs}
 use Rattle.wcet_front.specs.declared.reply.Reply.{Reply}
@@ -92,3 +95,8 @@ IsSoundProgram inputs entry program = flow.IsSoundProgram inputs.image inputs.fa
 abbrev pub IsFlowRefusal : Inputs → ℕ → Reply → Type 0
 IsFlowRefusal inputs entry said =
     (e : FlowError) × flow.IsFirst inputs.image inputs.facts entry inputs.machine e × (said ≡ reply.BadFlow e)
+
+-- the bytes are no certificate
+abbrev pub IsCertRefusal : List ℕ → Reply → Type 0
+IsCertRefusal bytes said =
+    (e : CertError) × cert.IsRefusal bytes e × (e ≢ cert_error.NoMemory) × (said ≡ reply.BadCertificate e)

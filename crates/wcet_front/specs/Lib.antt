@@ -2,9 +2,12 @@ pub mod RefusalText
 pub mod ReportText
 pub mod Reply
 pub mod Growth
+pub mod StoreUse
 pub mod Files
+pub mod Writing
 pub mod Stages
 pub mod Handing
 pub mod Inputs
 pub mod StageLaws
 pub mod FileLaws
+pub mod WritingLaws

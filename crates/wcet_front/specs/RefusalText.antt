@@ -14,6 +14,8 @@ use Rattle.start_file.specs.declared.start_error.StartError.{StartError}
 use Rattle.start_file.specs.declared.start_error.StartError.TheVariants as start_error
 use Rattle.flow_graph.specs.declared.error.FlowError.{FlowError}
 use Rattle.flow_graph.specs.declared.error.FlowError.TheVariants as flow_error
+use Rattle.cert_text.specs.declared.cert_error.CertError.{CertError}
+use Rattle.cert_text.specs.declared.cert_error.CertError.TheVariants as cert_error
 
 -- a further field
 abbrev pub further : List ℕ → List ℕ
@@ -70,3 +72,11 @@ flow_refusal (flow_error.Recursion addr) = codes "Recursion" ++ further (hex_wor
 flow_refusal (flow_error.Irreducible addr) = codes "Irreducible" ++ further (hex_word addr)
 flow_refusal (flow_error.LoopNoBound addr) = codes "LoopNoBound" ++ further (hex_word addr)
 flow_refusal flow_error.TooManyBlocks = codes "TooManyBlocks"
+
+-- why a file is no certificate
+abbrev pub certificate_refusal : CertError → List ℕ
+certificate_refusal cert_error.NoMemory = codes "memory"
+certificate_refusal (cert_error.Syntax at) = codes "Syntax" ++ further (decimal at)
+certificate_refusal cert_error.NoEnd = codes "NoEnd"
+certificate_refusal (cert_error.Number line) = codes "Number" ++ further (decimal line)
+certificate_refusal (cert_error.Order line) = codes "Order" ++ further (decimal line)

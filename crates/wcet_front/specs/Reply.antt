@@ -6,11 +6,12 @@ use Rattle.run_machine.specs.declared.report.End.{End}
 use Rattle.run_machine.specs.declared.report.End.TheVariants as end
 use Rattle.wcet_front.specs.declared.reply.Reply.{Reply}
 use Rattle.wcet_front.specs.declared.reply.Reply.TheVariants as reply
-use Rattle.wcet_front.specs.RefusalText.{image_refusal, facts_refusal, machine_refusal, start_refusal, flow_refusal}
+use Rattle.wcet_front.specs.RefusalText.{further, image_refusal, facts_refusal, machine_refusal, start_refusal, flow_refusal, certificate_refusal}
 use Rattle.wcet_front.specs.ReportText.{report_text}
 
--- the statuses: the defined answer; words that fit no form; a file that cannot be read; a text that cannot be handed
--- over; a refused image, facts, description of a machine; want of memory; something too large; a run that breaks a fact; a refused start
+-- the statuses: the defined answer; words that fit no form; a file that cannot be read; a file that cannot be written, or a text that
+-- cannot be handed over; a refused image, facts, description of a machine, certificate; want of memory; something too large; a run that
+-- breaks a fact; a refused start
 abbrev pub answered : ℕ
 answered = 0
 
@@ -31,6 +32,9 @@ refused_facts = 5
 
 abbrev pub refused_machine : ℕ
 refused_machine = 6
+
+abbrev pub refused_certificate : ℕ
+refused_certificate = 7
 
 abbrev pub starved : ℕ
 starved = 9
@@ -66,6 +70,9 @@ status_of (reply.NoEntry name) = refused_image
 status_of (reply.BadStart refusal) = refused_start
 status_of (reply.BadFlow refusal) = refused_image
 status_of (reply.Ran report) = run_status report.end
+status_of (reply.BadCertificate refusal) = refused_certificate
+status_of (reply.Migrated nodes vectors) = answered
+status_of (reply.Unwritten name) = unwritten
 
 -- a line ends with LF
 abbrev pub line : List ℕ → List ℕ
@@ -87,6 +94,9 @@ text_of (reply.NoEntry name) = line (codes "image NoEntry " ++ name)
 text_of (reply.BadStart refusal) = line (codes "start " ++ start_refusal refusal)
 text_of (reply.BadFlow refusal) = line (codes "image " ++ flow_refusal refusal)
 text_of (reply.Ran report) = line (report_text report)
+text_of (reply.BadCertificate refusal) = line (codes "certificate " ++ certificate_refusal refusal)
+text_of (reply.Migrated nodes vectors) = line (codes "migrated" ++ further (decimal nodes) ++ further (decimal vectors))
+text_of (reply.Unwritten name) = line (codes "write " ++ name)
 
 -- what is said where memory is wanting
 abbrev pub memory_line : List ℕ
@@ -100,4 +110,5 @@ pub data IsSaid (said : Reply) (status : ℕ) (text : List ℕ) : Type 0 where
 -- the reply does not say that the store failed
 abbrev pub IsNoFault : Reply → Type 0
 IsNoFault (reply.Unreadable name) = ⊥
+IsNoFault (reply.Unwritten name) = ⊥
 IsNoFault _ = ⊤

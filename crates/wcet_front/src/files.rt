@@ -2,7 +2,8 @@
 
 ghost use Rattle.std.specs.Prelude.{◌≡◌, ◌≢◌, ◌≤◌, ◌+◌, [], ◌∷◌, IfOk};
 ghost use Rattle.wx_host.specs.Outside.{counted};
-ghost use Rattle.wcet_front.specs.Files.{AreRead, IsCutShort, IsFaultReply, IsFirstUnread, read_log, reads_between};
+ghost use Rattle.wcet_front.specs.Files.{AreRead, IsCutShort, IsFaultReply, IsFirstUnread, reads_between};
+ghost use Rattle.wcet_front.specs.StoreUse.{log_of};
 ghost use Rattle.wcet_front.specs.Stages.{Gives, OnStarved, StopsWithoutFault};
 
 use crate::inputs::{InputNames, InputTexts};
@@ -17,14 +18,14 @@ pub fn read_inputs<S: Store>(
     names: &InputNames,
     store: &mut S,
 ) -> Result<InputTexts, Stop>
-    ensures outcome { let before = read_log (S.read_faults store.old) (S.read_names store.old) in
-        let after = read_log (S.read_faults store.new) (S.read_names store.new) in
+    ensures outcome { let before = log_of (S.read_faults store.old) (S.read_names store.old) in
+        let after = log_of (S.read_faults store.new) (S.read_names store.new) in
         let reads = reads_between (S.holds store.old) before after in
         let files = names.now.image.now ∷ names.now.facts.now ∷ names.now.machine.now ∷ [] in
         Gives (λ texts. AreRead reads files (texts.image ∷ texts.facts ∷ texts.machine ∷ []))
         (IsFirstUnread reads files) result }
-    ensures starved { let before = read_log (S.read_faults store.old) (S.read_names store.old) in
-        let after = read_log (S.read_faults store.new) (S.read_names store.new) in
+    ensures starved { let before = log_of (S.read_faults store.old) (S.read_names store.old) in
+        let after = log_of (S.read_faults store.new) (S.read_names store.new) in
         let reads = reads_between (S.holds store.old) before after in
         let files = names.now.image.now ∷ names.now.facts.now ∷ names.now.machine.now ∷ [] in
         OnStarved result (IsCutShort reads files) }
@@ -48,12 +49,12 @@ pub fn read_inputs<S: Store>(
 
 /// Reads the content of a file.
 pub fn read_file<S: Store>(alloc: Global, name: &str, store: &mut S) -> Result<Text, Stop>
-    ensures outcome { let before = read_log (S.read_faults store.old) (S.read_names store.old) in
-        let after = read_log (S.read_faults store.new) (S.read_names store.new) in
+    ensures outcome { let before = log_of (S.read_faults store.old) (S.read_names store.old) in
+        let after = log_of (S.read_faults store.new) (S.read_names store.new) in
         let reads = reads_between (S.holds store.old) before after in
         Gives (λ bytes. AreRead reads (name.now ∷ []) (bytes ∷ [])) (IsFirstUnread reads (name.now ∷ [])) result }
-    ensures starved { let before = read_log (S.read_faults store.old) (S.read_names store.old) in
-        let after = read_log (S.read_faults store.new) (S.read_names store.new) in
+    ensures starved { let before = log_of (S.read_faults store.old) (S.read_names store.old) in
+        let after = log_of (S.read_faults store.new) (S.read_names store.new) in
         let reads = reads_between (S.holds store.old) before after in
         OnStarved result (IsCutShort reads (name.now ∷ [])) }
     ensures holds { S.holds store.new ≡ S.holds store.old }

@@ -2,7 +2,7 @@
 
 ghost use Rattle.std.specs.Prelude.{◌≡◌, ◌≢◌, ◌≤◌, ℕ, List, length, drop};
 ghost use Rattle.wcet_front.specs.Handing.{HandsOver, Puts};
-ghost use Rattle.wcet_front.specs.Reply.{IsSaid, memory_line};
+ghost use Rattle.wcet_front.specs.Reply.{IsNoFault, IsSaid, memory_line};
 
 use crate::reply::Reply;
 use crate::status::{STARVED, UNWRITTEN};
@@ -17,7 +17,7 @@ const MEMORY_LINE: &[u8] = b"memory\n";
 pub fn say<O: Sink>(alloc: Global, reply: Reply, out: &mut O) -> u8
     ensures answer { (status : ℕ) × (text : List ℕ) × IsSaid reply status text
         × HandsOver (O.taken out.old) (O.taken out.new) (O.faults out.old) (O.faults out.new) status text result }
-    ensures sound { O.reliable out.old → result ≢ UNWRITTEN }
+    ensures sound { O.reliable out.old → IsNoFault reply → result ≢ UNWRITTEN }
 {
     match reply.line(alloc) {
         Ok(text) => hand_over(out, reply.status(), text.as_slice()),

@@ -5,15 +5,19 @@ mod pieces;
 mod refusal_lines;
 mod report_line;
 
-use self::pieces::{push, push_named, push_numbered, push_placed, push_placed_word};
+use self::pieces::{
+    push, push_named, push_numbered, push_numbered_twice, push_placed, push_placed_word,
+};
 use self::refusal_lines::{
-    push_bad_facts, push_bad_flow, push_bad_image, push_bad_machine, push_bad_start,
+    push_bad_certificate, push_bad_facts, push_bad_flow, push_bad_image, push_bad_machine,
+    push_bad_start,
 };
 use self::report_line::push_report;
 use crate::status::{
-    ANSWERED, BREAKS_FACT, MISUSED, REFUSED_FACTS, REFUSED_IMAGE, REFUSED_MACHINE, REFUSED_START,
-    TOO_LARGE, UNREAD,
+    ANSWERED, BREAKS_FACT, MISUSED, REFUSED_CERTIFICATE, REFUSED_FACTS, REFUSED_IMAGE,
+    REFUSED_MACHINE, REFUSED_START, TOO_LARGE, UNREAD, UNWRITTEN,
 };
+use cert_text::CertError;
 use elf_image::ElfError;
 use ffx_facts::FactsError;
 use flow_graph::FlowError;
@@ -23,7 +27,7 @@ use start_file::StartError;
 use std::alloc::Global;
 use wx_base::{NoMemory, Text};
 
-/// What the program answers to its words: a bound, the report of a run, or why there is none.
+/// What the program answers to its words: a bound, the report of a run, what was written, or why there is none.
 #[derive(Debug, Drop)]
 pub enum Reply {
     /// No run takes more than these cycles.
@@ -54,6 +58,12 @@ pub enum Reply {
     BadFlow { refusal: FlowError },
     /// What the run came to.
     Ran { report: Report },
+    /// The file is no certificate.
+    BadCertificate { refusal: CertError },
+    /// A certificate with so many nodes and different vectors was written anew.
+    Migrated { nodes: u64, vectors: u64 },
+    /// The store failed to write this file.
+    Unwritten { name: Text },
 }
 
 impl Reply {
@@ -79,6 +89,9 @@ impl Reply {
             Reply::BadStart { .. } => REFUSED_START,
             Reply::BadFlow { .. } => REFUSED_IMAGE,
             Reply::Ran { report } => run_status(report.end),
+            Reply::BadCertificate { .. } => REFUSED_CERTIFICATE,
+            Reply::Migrated { .. } => ANSWERED,
+            Reply::Unwritten { .. } => UNWRITTEN,
         }
     }
 
@@ -115,6 +128,13 @@ impl Reply {
             Reply::BadStart { refusal } => push_bad_start(&mut text, refusal)?,
             Reply::BadFlow { refusal } => push_bad_flow(&mut text, refusal)?,
             Reply::Ran { report } => push_report(&mut text, *report)?,
+            Reply::BadCertificate { refusal } => push_bad_certificate(&mut text, refusal)?,
+            Reply::Migrated { nodes, vectors } => {
+                push_numbered_twice(&mut text, b"migrated".as_slice(), *nodes, *vectors)?
+            }
+            Reply::Unwritten { name } => {
+                push_named(&mut text, b"write".as_slice(), name.as_bytes())?
+            }
         }
         text.push(b'\n')?;
         Ok(text)

@@ -1,6 +1,6 @@
 //! The stages of commands: from the contents of files to what a command needs, or to the reply that refuses one of them.
 
-ghost use Rattle.std.specs.Prelude.{◌≡◌, ◌≢◌, IfOk, option_copied};
+ghost use Rattle.std.specs.Prelude.{◌≡◌, ◌≢◌, ◌≤◌, IfOk, length, option_copied};
 ghost use Rattle.arm_step.specs.Cpu.{registers_of};
 ghost use Rattle.wx_base.specs.Facts.{FactsAscend};
 ghost use Rattle.wx_base.specs.Machine.{IsMachine};
@@ -8,12 +8,15 @@ ghost use Rattle.wx_base.specs.State.{pc};
 ghost use Rattle.ffx_facts.specs.Causes.{AreFactsOf};
 ghost use Rattle.machine_desc.specs.Causes.{IsDescription};
 ghost use Rattle.start_file.specs.StartState.{start_of};
-ghost use Rattle.wcet_front.specs.Inputs.{AreTold, IsEntryOf, IsEntryRefusal, IsFactsRefusal, IsFlowRefusal, IsImageOf, IsImageRefusal, IsInputsRefusal, IsMachineRefusal, IsSoundProgram, IsStartRefusal, IsStartTold};
+ghost use Rattle.cert_text.specs.Text.{IsTextOf};
+ghost use Rattle.cert_text.specs.Writable.{IsWritable};
+ghost use Rattle.wcet_front.specs.Inputs.{AreTold, IsCertRefusal, IsEntryOf, IsEntryRefusal, IsFactsRefusal, IsFlowRefusal, IsImageOf, IsImageRefusal, IsInputsRefusal, IsMachineRefusal, IsSoundProgram, IsStartRefusal, IsStartTold};
 ghost use Rattle.wcet_front.specs.Stages.{Gives, GivesOnly, RefusesNothing, RefusesWith, StopsWith};
 
 use crate::inputs::{InputTexts, Inputs};
 use crate::reply::Reply;
 use crate::stop::Stop;
+use cert_text::{CertError, Certificate, read_cert};
 use elf_image::{ElfError, read_image};
 use ffx_facts::{FactsError, facts_are_one, read_facts};
 use flow_graph::{FlowError, Program, build};
@@ -181,4 +184,30 @@ pub fn program_of(alloc: Global, inputs: &Inputs, entry: u32) -> Result<Program,
             reply: Reply::BadFlow { refusal },
         }),
     }
+}
+
+/// The certificate that a file's bytes are the text of.
+pub fn certificate_in(alloc: Global, text: &Text) -> Result<Certificate, Stop>
+    requires { length text.now ≤ 16777216 }
+    ensures cause { Gives (IsTextOf text.now) (IsCertRefusal text.now) result }
+    ensures due { (certificate : _) → IsTextOf text.now certificate → GivesOnly certificate result }
+    ensures refusal_due { (said : _) → IsCertRefusal text.now said → RefusesWith said result }
+    ensures writable { IfOk result IsWritable }
+{
+    match read_cert(alloc, text.as_bytes()) {
+        Ok(certificate) => Ok(certificate),
+        Err(CertError::NoMemory) => Err(Stop::NoMemory),
+        Err(refusal) => Err(Stop::Replied {
+            reply: bad_certificate(refusal),
+        }),
+    }
+}
+
+/// The reply to a file that holds no certificate.
+fn bad_certificate(refusal: CertError) -> Reply
+    requires { refusal ≢ CertError.NoMemory }
+    ensures is { result ≡ Reply.BadCertificate refusal }
+    ensures refused { refusal ≢ CertError.NoMemory }
+{
+    Reply::BadCertificate { refusal }
 }

@@ -6,7 +6,7 @@ pub const ANSWERED: u8 = 0;
 pub const MISUSED: u8 = 1;
 /// A file cannot be read.
 pub const UNREAD: u8 = 2;
-/// A text cannot be handed over.
+/// A file cannot be written, or a text cannot be handed over.
 pub const UNWRITTEN: u8 = 3;
 /// The image is refused.
 pub const REFUSED_IMAGE: u8 = 4;
@@ -14,6 +14,8 @@ pub const REFUSED_IMAGE: u8 = 4;
 pub const REFUSED_FACTS: u8 = 5;
 /// The machine's description is refused.
 pub const REFUSED_MACHINE: u8 = 6;
+/// The certificate is refused.
+pub const REFUSED_CERTIFICATE: u8 = 7;
 /// Memory is wanting.
 pub const STARVED: u8 = 9;
 /// Something is too large.

@@ -2,7 +2,8 @@
 
 ghost use Rattle.std.specs.Prelude.{◌≡◌, ◌≤◌, [], ◌∷◌, length};
 ghost use Rattle.wx_host.specs.Outside.{Contents, counted};
-ghost use Rattle.wcet_front.specs.Files.{IsCutShort, ReadsAndReplies, read_log, reads_between, reads_of};
+ghost use Rattle.wcet_front.specs.Files.{IsCutShort, ReadsAndReplies, reads_between, reads_of};
+ghost use Rattle.wcet_front.specs.StoreUse.{log_of};
 ghost use Rattle.wcet_front.specs.Reply.{IsNoFault};
 ghost use Rattle.wcet_front.specs.Stages.{Answers, OnStarved};
 ghost use Rattle.wcet_cli.specs.FlatCommand.{FlatReplies, FlatReply};
@@ -14,12 +15,12 @@ use wx_base::{Machine, Store};
 
 /// The reply to `flat` and the name of a file: the bound of the straight program that its bytes begin with.
 pub fn flat<S: Store>(alloc: Global, code: &str, store: &mut S) -> Result<Reply, Stop>
-    ensures cause { let before = read_log (S.read_faults store.old) (S.read_names store.old) in
-        let after = read_log (S.read_faults store.new) (S.read_names store.new) in
+    ensures cause { let before = log_of (S.read_faults store.old) (S.read_names store.old) in
+        let after = log_of (S.read_faults store.new) (S.read_names store.new) in
         let reads = reads_between (S.holds store.old) before after in
         Answers (ReadsAndReplies reads (code.now ∷ []) FlatReplies) result }
-    ensures starved { let before = read_log (S.read_faults store.old) (S.read_names store.old) in
-        let after = read_log (S.read_faults store.new) (S.read_names store.new) in
+    ensures starved { let before = log_of (S.read_faults store.old) (S.read_names store.old) in
+        let after = log_of (S.read_faults store.new) (S.read_names store.new) in
         let reads = reads_between (S.holds store.old) before after in
         OnStarved result (IsCutShort reads (code.now ∷ [])) }
     ensures due { (contents : Contents) (due : _) → S.holds store.old ≡ Some contents

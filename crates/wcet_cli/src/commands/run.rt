@@ -2,7 +2,8 @@
 
 ghost use Rattle.std.specs.Prelude.{◌≡◌, ◌≤◌, ◌+◌};
 ghost use Rattle.wx_host.specs.Outside.{Contents};
-ghost use Rattle.wcet_front.specs.Files.{IsCutShort, ReadsAndReplies, read_log, reads_between, reads_of};
+ghost use Rattle.wcet_front.specs.Files.{IsCutShort, ReadsAndReplies, reads_between, reads_of};
+ghost use Rattle.wcet_front.specs.StoreUse.{log_of};
 ghost use Rattle.wcet_front.specs.Reply.{IsNoFault};
 ghost use Rattle.wcet_front.specs.Stages.{Answers, Gives, OnStarved};
 ghost use Rattle.wcet_cli.specs.Commands.{run_words};
@@ -21,13 +22,13 @@ use wx_base::{Store, Text};
 /// The reply to `run`: the report of the run that the start text names.
 pub fn run<S: Store>(alloc: Global, run: &RunCommand, store: &mut S) -> Result<Reply, Stop>
     requires { run.now.steps ≤ most_steps }
-    ensures cause { let before = read_log (S.read_faults store.old) (S.read_names store.old) in
-        let after = read_log (S.read_faults store.new) (S.read_names store.new) in
+    ensures cause { let before = log_of (S.read_faults store.old) (S.read_names store.old) in
+        let after = log_of (S.read_faults store.new) (S.read_names store.new) in
         let reads = reads_between (S.holds store.old) before after in
         let w = run_words run.now in
         Answers (ReadsAndReplies reads (run_files w) (RunReplies w)) result }
-    ensures starved { let before = read_log (S.read_faults store.old) (S.read_names store.old) in
-        let after = read_log (S.read_faults store.new) (S.read_names store.new) in
+    ensures starved { let before = log_of (S.read_faults store.old) (S.read_names store.old) in
+        let after = log_of (S.read_faults store.new) (S.read_names store.new) in
         let reads = reads_between (S.holds store.old) before after in
         OnStarved result (IsCutShort reads (run_files (run_words run.now))) }
     ensures due { (contents : Contents) (due : _) → S.holds store.old ≡ Some contents

@@ -1,12 +1,13 @@
 //! Why an input is refused, as words of a reply's line: which input, the refusal's name, and behind it its fields.
 
 ghost use Rattle.std.specs.Prelude.{◌≡◌, ◌++◌, OnOk, codes};
-ghost use Rattle.wcet_front.specs.RefusalText.{image_refusal, facts_refusal, machine_refusal, start_refusal, flow_refusal};
+ghost use Rattle.wcet_front.specs.RefusalText.{image_refusal, facts_refusal, machine_refusal, start_refusal, flow_refusal, certificate_refusal};
 
 use super::pieces::{
     push, push_named, push_numbered, push_numbered_twice, push_placed, push_placed_word,
     push_signed_field,
 };
+use cert_text::CertError;
 use elf_image::ElfError;
 use ffx_facts::FactsError;
 use flow_graph::FlowError;
@@ -144,5 +145,26 @@ fn push_flow_refusal(text: &mut Vec<u8>, refusal: &FlowError) -> Result<(), NoMe
         FlowError::Irreducible { addr } => push_placed(text, b"Irreducible".as_slice(), *addr),
         FlowError::LoopNoBound { addr } => push_placed(text, b"LoopNoBound".as_slice(), *addr),
         FlowError::TooManyBlocks => push(text, b"TooManyBlocks".as_slice()),
+    }
+}
+
+/// Appends that a file is no certificate, and why.
+pub(crate) fn push_bad_certificate(text: &mut Vec<u8>, refusal: &CertError) -> Result<(), NoMemory>
+    ensures { OnOk result (text.new.items ≡ text.old.items ++ (codes "certificate " ++ certificate_refusal refusal.now)) }
+{
+    push(text, b"certificate ".as_slice())?;
+    push_certificate_refusal(text, refusal)
+}
+
+/// Appends why a file is no certificate.
+fn push_certificate_refusal(text: &mut Vec<u8>, refusal: &CertError) -> Result<(), NoMemory>
+    ensures { OnOk result (text.new.items ≡ text.old.items ++ certificate_refusal refusal.now) }
+{
+    match refusal {
+        CertError::NoMemory => push(text, MEMORY),
+        CertError::Syntax { at } => push_numbered(text, b"Syntax".as_slice(), *at),
+        CertError::NoEnd => push(text, b"NoEnd".as_slice()),
+        CertError::Number { line } => push_numbered(text, b"Number".as_slice(), *line),
+        CertError::Order { line } => push_numbered(text, b"Order".as_slice(), *line),
     }
 }

@@ -5,4 +5,4 @@ pub returns-clause-some : goal.returns-clause-some
 returns-clause-some c = some_is_due
 
 pub returns-clause-no_other : goal.returns-clause-no_other
-returns-clause-no_other c contents words due other no_run p q = one_is_due contents words due other no_run p q
+returns-clause-no_other c contents words due other others p q = one_is_due contents words due other others p q
