@@ -59,6 +59,8 @@ def try_forms():
         ["run"], ["run", "a", "b", "c", "d"], ["run", "a", "b", "c", "d", "1", "2"], ["run", "a", "b", "c", "d", "1", "entry"],
         ["run", "a", "b", "c", "d", "1", "entry", "main", "x"], ["run", "a", "b", "c", "d", "1", "Entry", "main"],
         ["run", "a", "b", "c", "d", "01"], ["run", "a", "b", "c", "d", "-1"], ["run", "a", "b", "c", "d", ""],
+        ["check"], ["check", "a", "b", "c"], ["check", "a", "b", "c", "d", "e"], ["check", "a", "b", "c", "d", "entry"],
+        ["check", "a", "b", "c", "d", "entry", "main", "x"], ["check", "a", "b", "c", "d", "start", "main"], ["Check", "a", "b", "c", "d"],
         ["migrate"], ["migrate", "a"], ["migrate", "a", "b", "c"], ["migrate", "a", "b", "entry", "main"], ["Migrate", "a", "b"],
         ["run", "a", "b", "c", "d", "1000000001"], ["run", "a", "b", "c", "d", "ten"], [b"\xff"], ["flat", b"\xff\xfe"],
     ]:
@@ -276,6 +278,66 @@ def try_migrate():
     judge("migrate with an output that is full", (done.returncode, done.stderr, pathlib.Path("certs/kept").read_bytes()), (3, b"", CERT_TWO))
 
 
+def with_symbol(name, value, words):
+    """An executable with these words of code from address 0x8000 on, where it begins, and one symbol."""
+    code = b"".join(word.to_bytes(4, "little") for word in words)
+    names = b"\0" + name.encode() + b"\0"
+    symbols = bytes(16) + struct.pack("<IIIBBH", 1, value, 8, 0x12, 0, 1)
+    at = 84 + len(code)
+    sections = bytes(40) + struct.pack("<10I", 0, 2, 0, 0, at, len(symbols), 2, 1, 4, 16) + struct.pack("<10I", 0, 3, 0, 0, at + len(symbols), len(names), 0, 0, 1, 0)
+    header = b"\x7fELF\x01\x01\x01" + bytes(9) + struct.pack("<HHIIIIIHHHHHH", 2, 40, 1, 0x8000, 52, at + len(symbols) + len(names), 0, 52, 32, 1, 40, 3, 0)
+    load = struct.pack("<IIIIIIII", 1, 84, 0x8000, 0x8000, len(code), len(code), 5, 4)
+    return header + load + code + symbols + names + sections
+
+
+def check_words(**changed):
+    """The words of a check of the loop's certificate, with some of them changed."""
+    words = {"image": "checked/image", "facts": "checked/facts", "machine": EXAMPLES / "m1.toml", "certificate": "checked/one"}
+    entry = changed.pop("entry", None)
+    words.update(changed)
+    return ["check", *(str(words[it]) for it in ("image", "facts", "machine", "certificate"))] + (["entry", entry] if entry is not None else [])
+
+
+def try_check():
+    os.mkdir("checked")
+    put("checked/image", elf_of([0xE3A0000A, 0xE2500001, 0x1AFFFFFD, 0xEF000000]))
+    put("checked/facts", b'<flowfacts><loop address="0x8004" maxcount="9"/></flowfacts>')
+    put("checked/one", CERT_ONE)
+    put("checked/two", CERT_TWO)
+    expect("check version 1", check_words(), 0, "bound 50")
+    expect("check version 2", check_words(certificate="checked/two"), 0, "bound 50")
+    put("checked/low", CERT_ONE.replace(b"vec 42", b"vec 41"))
+    expect("a certificate that pays too little", check_words(certificate="checked/low"), 8, "rejected 3 0 0")
+    put("checked/less", CERT_ONE.replace(b"bound 50", b"bound 49"))
+    expect("a certificate with a lower bound", check_words(certificate="checked/less"), 8, "rejected 5 0 0")
+    expect("a certificate of another program", check_words(image="two.elf", facts="none.ffx"), 8, "rejected 0 0 0")
+    put("checked/cut", CERT_ONE[:-4])
+    expect("a certificate that is cut off", check_words(certificate="checked/cut"), 7, "certificate NoEnd")
+    expect("no certificate", check_words(certificate="two.bin"), 7, "certificate Syntax 0")
+    # The function `two` lies behind the image's entry and takes one cycle more than what stands there.
+    put("checked/two.elf", with_symbol("two", 0x8004, [0xEF000000, 0xE3A00001, 0xEF000000]))
+    put("checked/11", b"wx-cert 1\nnode 0 1\nvec 3\ncharge 00000800 run 8\nbound 11\nend\n")
+    put("checked/12", b"wx-cert 1\nnode 0 1\nvec 4\ncharge 00000800 run 8\nbound 12\nend\n")
+    two = {"image": "checked/two.elf", "facts": "none.ffx"}
+    expect("check from the image's entry", check_words(**two, certificate="checked/11"), 0, "bound 11")
+    expect("check from a named entry", check_words(**two, certificate="checked/12", entry="two"), 0, "bound 12")
+    expect("a certificate for another entry", check_words(**two, certificate="checked/11", entry="two"), 8, "rejected 2 0 0")
+    expect("no such entry to check from", check_words(entry="two"), 4, "image NoEntry two")
+    expect("check of no executable", check_words(image="two.bin"), 4, "image Short 8")
+    expect("check of a loop without a fact", check_words(facts="none.ffx"), 4, "image LoopNoBound 00008004")
+    expect("check with facts of no bytes", check_words(facts="empty.bin"), 5, "facts Syntax 0")
+    expect("check with a description of no bytes", check_words(machine="empty.bin"), 6, "machine Missing width")
+    expect("check with no certificate's file", check_words(image="empty.bin", certificate="none"), 2, "read none")
+    expect("check with a certificate that is too long", check_words(image="empty.bin", certificate="too-long.bin"), 10, "large file too-long.bin")
+    put("checked/long", elf_of([0xEAFFFFFF] * 4095 + [0xEF000000]))
+    expect("a program of 4,096 nodes", check_words(image="checked/long", facts="none.ffx"), 8, "rejected 0 0 0")
+    put("checked/longer", elf_of([0xEAFFFFFF] * 4096 + [0xEF000000]))
+    expect("a program of 4,097 nodes", check_words(image="checked/longer", facts="none.ffx"), 10, "large nodes")
+    with open("/dev/full", "wb") as full:
+        done = subprocess.run([str(PROGRAM), *check_words()], stdout=full, stderr=subprocess.PIPE, timeout=100)
+        judge("check with an output that is full", (done.returncode, done.stderr), (3, b""))
+
+
 def sessions(text):
     """Gives each command that a document shows, with the lines that it shows as printed."""
     command, lines = None, []
@@ -307,7 +369,7 @@ def main():
     room = tempfile.mkdtemp()
     try:
         os.chdir(room)
-        for group in (try_forms, try_flat, try_names, try_run, try_sizes, try_outputs, try_migrate, try_documents):
+        for group in (try_forms, try_flat, try_names, try_run, try_sizes, try_outputs, try_migrate, try_check, try_documents):
             group()
     finally:
         os.chdir("/")

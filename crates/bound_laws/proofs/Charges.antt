@@ -15,7 +15,7 @@ use Rattle.cache_flow.specs.Flows.{Part}
 use Rattle.cache_class.specs.declared.class.Class.TheVariants.{FirstMiss}
 use Rattle.cache_class.specs.declared.class.Classes.{Classes}
 use Rattle.cache_class.specs.Accesses.{part_of, slots_of}
-use Rattle.cache_class.specs.Classes.{AreClasses, IsClass, IsKindClass, States}
+use Rattle.cache_class.specs.Classes.{AreClasses, IsClass, IsKindClass}
 use Rattle.cache_class.specs.Classes.IsClass.{first}
 use Rattle.cache_class.specs.Groups.{AreGroups, IsOfGroup}
 use Rattle.cert_text.specs.declared.certificate.Charge.{Charge}
@@ -48,18 +48,18 @@ unfolding members_of
 scope_of u Run node c = run
 scope_of u (Loop number) node c = in_loop u number node (slice_get u.loops number) refl c
 
-kept_scope : (shape : Shape) (u : Unfolded) (flow : Flow) (states : States) (node place line : ℕ) (scope : Scope)
-    → IsClass shape u flow states node place line (FirstMiss scope) → IsScope u scope
-kept_scope shape u flow states node place line scope (first _ not_held there kept outermost) = scope_of u scope node kept.member
+kept_scope : (shape : Shape) (u : Unfolded) (flow : Flow) (node place line : ℕ) (scope : Scope)
+    → IsClass shape u flow node place line (FirstMiss scope) → IsScope u scope
+kept_scope shape u flow node place line scope (first _ not_held there kept outermost) = scope_of u scope node kept.member
 
 group_scope : (u : Unfolded) (machine : Machine) (classes : Classes) → AreClasses u machine classes → (line number place : ℕ) (scope : Scope)
     → IsOfGroup u classes line scope number place → IsScope u scope
 group_scope u machine classes are line number place scope is =
     let node = are.each number is.node is.classes is.stands is.listed in
     let event = node.each place is.slot (FirstMiss scope) is.event is.class in
-    let fetch : IsKindClass machine u are.flow are.states number (slots_of u.program is.node) place (Fetch line) (FirstMiss scope) =
-    subst (λ kind. IsKindClass machine u are.flow are.states number (slots_of u.program is.node) place kind (FirstMiss scope)) is.fetches event in
-    kept_scope machine.shape u are.flow are.states number _ line scope fetch
+    let fetch : IsKindClass machine u are.flow number (slots_of u.program is.node) place (Fetch line) (FirstMiss scope) =
+    subst (λ kind. IsKindClass machine u are.flow number (slots_of u.program is.node) place kind (FirstMiss scope)) is.fetches event in
+    kept_scope machine.shape u are.flow number _ line scope fetch
 
 module _ {A B : Type 0} (f : A → B) where
   contains_made : (xs : List A) (x : A) → Contains xs x → Contains (map f xs) (f x)

@@ -1,22 +1,17 @@
--- An unfolding has one table of classes: the flow is one, so the least states are, and so the classes.
-use Rattle.std.proofs.Common.{◌≡◌, ℕ, zero, suc, ◌+◌, ◌<◌, ◌≤◌, ◌⊎◌, Bool, true, false, List, [], ◌∷◌, length, get_or, map, take, Option, Some, None, refl, sym, ap, ◌∙◌, subst, inl, inr, arith, ltb}
-use Rattle.std.specs.List.{All, Any, Contains, filter_map, cons_option, slice_get}
+-- An unfolding has one table of classes: the flow is one, and what some solution shows no table may pass over.
+use Rattle.std.proofs.Common.{◌≡◌, ℕ, zero, suc, ◌<◌, ◌⊎◌, Bool, true, false, List, [], ◌∷◌, length, get_or, take, Option, Some, None, refl, sym, ap, ◌∙◌, subst, inl, inr, arith}
+use Rattle.std.specs.List.{All, Any, Contains, cons_option, slice_get}
 use Rattle.std.specs.Option.{option_map}
-use Rattle.std.proofs.lemmas.Bool.{cases_lt, true≢false, false≢true}
-use Rattle.std.proofs.lemmas.List.{length-map, get_or_past, get_or_default}
-use Rattle.std.proofs.lemmas.List.Elements.{All-from_get_or, All-nil, All-take, Contains-get_or}
+use Rattle.std.proofs.lemmas.Bool.{cases_lt}
+use Rattle.std.proofs.lemmas.List.{get_or_past, get_or_default}
+use Rattle.std.proofs.lemmas.List.Elements.{All-from_get_or, All-nil, Contains-get_or}
 use Rattle.std.proofs.lemmas.Option.{same_Some, slice_get_within, slice_get-map, get_or_from_slice_get}
-use Rattle.std.proofs.lemmas.Map.Views.{list_any-from_Contains}
 use Rattle.wx_base.specs.declared.machine.Machine.{Machine}
 use Rattle.wx_base.specs.declared.machine.Shape.{Shape}
-use Rattle.wx_base.specs.CacheStates.{Ages, must_hold, may_hold, Younger, is_kept}
 use Rattle.cache_ages.specs.Bounds.{is_one_of}
 use Rattle.cache_ages.proofs.Beside.{one_at}
 use Rattle.cache_flow.specs.declared.flow.Flow.{Flow}
-use Rattle.cache_flow.specs.declared.flow.Move.{Move}
 use Rattle.cache_flow.specs.Flows.{accesses_of}
-use Rattle.cache_flow.specs.Laws.{LeastMustIsOne, LeastMayIsOne, LeastYoungerIsOne}
-use Rattle.cache_flow.specs.Solutions.{must_at, may_at, younger_at, YoungerCoversAt}
 use Rattle.flow_block.specs.declared.block.Slot.{Slot}
 use Rattle.flow_block.specs.declared.block.SlotKind.{SlotKind}
 use Rattle.flow_block.specs.declared.block.SlotKind.TheVariants.{Fetch, Multiply, Data}
@@ -25,18 +20,16 @@ use Rattle.flow_ctx.specs.declared.scope.Scope.TheVariants.{Run, Loop}
 use Rattle.flow_ctx.specs.declared.unfolded.UNode.{UNode}
 use Rattle.flow_ctx.specs.declared.unfolded.Unfolded.{Unfolded}
 use Rattle.cache_class.specs.declared.class.Class.{Class}
-use Rattle.cache_class.specs.declared.class.Class.TheVariants.{AlwaysHit, AlwaysMiss, FirstMiss, Open}
-use Rattle.cache_class.specs.declared.class.Classes.{Classes}
-use Rattle.cache_class.specs.Accesses.{slots_of, fetched, fetched_by, lines_fetched, move_along, IsFlowOf, part_of}
-use Rattle.cache_class.specs.Classes.{States, AreLeast, size_of, IsOutside, IsKeptIn, IsClass, IsKindClass, AreNodeClasses, AreClasses}
+use Rattle.cache_class.specs.declared.class.Class.TheVariants.{FirstMiss}
+use Rattle.cache_class.specs.Accesses.{slots_of, fetched, fetched_by, lines_fetched, IsFlowOf}
+use Rattle.cache_class.specs.Classes.{size_of, IsOutside, IsClass, IsKindClass, AreNodeClasses}
 use Rattle.cache_class.specs.Classes.IsClass.{hits, misses, first, opens}
 use Rattle.cache_class.specs.Laws.{ClassesAreOne}
 use Rattle.cache_class.proofs.Ascending.{numbers_one}
-use Rattle.cache_class.proofs.ClassLemmas.{must_agree, may_agree, younger_order, kept_order}
 
 -- ---- lists
 
-same_bool : (a b : Bool) → (a ≡ true → b ≡ true) → (b ≡ true → a ≡ true) → a ≡ b
+pub same_bool : (a b : Bool) → (a ≡ true → b ≡ true) → (b ≡ true → a ≡ true) → a ≡ b
 same_bool true b f g = sym (f refl)
 same_bool false true f g = g refl
 same_bool false false f g = refl
@@ -68,7 +61,7 @@ flow_once u f g a b =
     let moves : f.moves ≡ g.moves = a.moves ∙ sym b.moves in
     λ i. record { start = start i; nodes = nodes i; moves = moves i; lines = lines i }
 
-one_of_contained : (lines : List ℕ) (line : ℕ) → Contains lines line → is_one_of lines line ≡ true
+pub one_of_contained : (lines : List ℕ) (line : ℕ) → Contains lines line → is_one_of lines line ≡ true
 one_of_contained lines line c = one_at lines c.0 line c.1 (get_or_default lines c.0 0 line c.1 ∙ c.2)
 
 -- nodes access lines of the flow
@@ -104,63 +97,37 @@ outside_told u (Loop k) (Loop m) = elim (cases_lt (size_of u (Loop m)) (size_of 
 
 -- ---- classes
 
-module _ (shape : Shape) (u : Unfolded) (flow : Flow) (a b : States) (node place line : ℕ)
-    (must : must_hold shape (must_at shape flow a.must node place) line ≡ must_hold shape (must_at shape flow b.must node place) line)
-    (may : may_hold shape (may_at shape flow a.may node place) line ≡ may_hold shape (may_at shape flow b.may node place) line)
-    (there : (scope : Scope) → IsKeptIn shape u flow a node place line scope → IsKeptIn shape u flow b node place line scope)
-    (back : (scope : Scope) → IsKeptIn shape u flow b node place line scope → IsKeptIn shape u flow a node place line scope) where
-  class_once : (c d : Class) → IsClass shape u flow a node place line c → IsClass shape u flow b node place line d → c ≡ d
+module _ (shape : Shape) (u : Unfolded) (flow : Flow) (node place line : ℕ) where
+  class_once : (c d : Class) → IsClass shape u flow node place line c → IsClass shape u flow node place line d → c ≡ d
   class_once c d (hits p) (hits q) = refl
-  class_once c d (hits p) (misses q r) = absurd (true≢false (sym p ∙ must ∙ q))
-  class_once c d (hits p) (first t q r k o) = absurd (true≢false (sym p ∙ must ∙ q))
-  class_once c d (hits p) (opens q r k) = absurd (true≢false (sym p ∙ must ∙ q))
-  class_once c d (misses p r) (hits q) = absurd (true≢false (sym q ∙ sym must ∙ p))
+  class_once c d (hits p) (misses q r) = absurd (q p)
+  class_once c d (hits p) (first t q r k o) = absurd (q p)
+  class_once c d (hits p) (opens q r k) = absurd (q p)
+  class_once c d (misses p r) (hits q) = absurd (p q)
   class_once c d (misses p r) (misses q s) = refl
-  class_once c d (misses p r) (first t q s k o) = absurd (true≢false (sym s ∙ sym may ∙ r))
-  class_once c d (misses p r) (opens q s k) = absurd (true≢false (sym s ∙ sym may ∙ r))
-  class_once c d (first t p r k o) (hits q) = absurd (true≢false (sym q ∙ sym must ∙ p))
-  class_once c d (first t p r k o) (misses q s) = absurd (true≢false (sym r ∙ may ∙ s))
+  class_once c d (misses p r) (first t q s k o) = absurd (s r)
+  class_once c d (misses p r) (opens q s k) = absurd (s r)
+  class_once c d (first t p r k o) (hits q) = absurd (p q)
+  class_once c d (first t p r k o) (misses q s) = absurd (r s)
   class_once c d (first s p r k o) (first t q w l n) = elim (outside_told u s t) [
-    | inl out ↦ absurd (n s out (there s k))
+    | inl out ↦ absurd (n s out k)
     | inr rest ↦ elim rest [
       | inl e ↦ ap FirstMiss e
-      | inr out ↦ absurd (o t out (back t l))
+      | inr out ↦ absurd (o t out l)
     ]
   ]
-  class_once c d (first t p r k o) (opens q s n) = absurd (n t (there t k))
-  class_once c d (opens p r k) (hits q) = absurd (true≢false (sym q ∙ sym must ∙ p))
-  class_once c d (opens p r k) (misses q s) = absurd (true≢false (sym r ∙ may ∙ s))
-  class_once c d (opens p r k) (first t q s l n) = absurd (k t (back t l))
+  class_once c d (first t p r k o) (opens q s n) = absurd (n t k)
+  class_once c d (opens p r k) (hits q) = absurd (p q)
+  class_once c d (opens p r k) (misses q s) = absurd (r s)
+  class_once c d (opens p r k) (first t q s l n) = absurd (k t l)
   class_once c d (opens p r k) (opens q s l) = refl
 
-module _ (must_one : LeastMustIsOne) (may_one : LeastMayIsOne) (younger_one : LeastYoungerIsOne) (machine : Machine) (u : Unfolded) (flow : Flow) (of : IsFlowOf u flow)
-    (a b : States) (l : AreLeast machine.shape u flow a) (m : AreLeast machine.shape u flow b) where
-  kept_over : (x y : States) (p : AreLeast machine.shape u flow x) (q : AreLeast machine.shape u flow y) (node place line : ℕ) → is_one_of flow.lines line ≡ true
-      → (scope : Scope) → IsKeptIn machine.shape u flow x node place line scope → IsKeptIn machine.shape u flow y node place line scope
-  kept_over x y p q node place line one scope k =
-      let both = younger_one machine.shape flow (part_of u scope) (x.younger scope) (y.younger scope) (p.younger scope) (q.younger scope) node k.member in
-      let listed = All-take (λ n. is_one_of flow.lines n ≡ true) place (accesses_of flow node) (accesses_listed u flow node of) in
-      record {
-        member = k.member;
-        kept = kept_order machine.shape flow.lines (younger_at machine.shape flow (x.younger scope) node place) (younger_at machine.shape flow (y.younger scope) node place) line one
-            (younger_order machine.shape flow.lines (x.younger scope node) (y.younger scope node) (take place (accesses_of flow node)) listed both.0) k.kept;
-      }
-
-  kind_once : (node : ℕ) (slots : List Slot) (number : ℕ) (kind : SlotKind) (c d : Class) → node < length flow.nodes
-      → ((line : ℕ) → kind ≡ Fetch line → is_one_of flow.lines line ≡ true)
-      → IsKindClass machine u flow a node slots number kind c → IsKindClass machine u flow b node slots number kind d → c ≡ d
-  kind_once node slots number (Fetch line) c d inside listed p q =
-      let place = length (lines_fetched (take number slots)) in
-      let one = listed line refl in
-      let all = All-take (λ n. is_one_of flow.lines n ≡ true) place (accesses_of flow node) (accesses_listed u flow node of) in
-      class_once machine.shape u flow a b node place line
-      (ap (λ (age : ℕ). ltb age machine.shape.ways) (must_agree machine.shape flow.lines (a.must node) (b.must node) (take place (accesses_of flow node)) all
-      (λ n h. must_one machine.shape flow a.must b.must l.must m.must node inside n h) line one))
-      (ap (λ (age : ℕ). ltb age machine.shape.ways) (may_agree machine.shape flow.lines (a.may node) (b.may node) (take place (accesses_of flow node)) all
-      (λ n h. may_one machine.shape flow a.may b.may l.may m.may node inside n h) line one))
-      (kept_over a b l m node place line one) (kept_over b a m l node place line one) c d p q
-  kind_once node slots number Multiply c d inside listed p q = p ∙ sym q
-  kind_once node slots number Data c d inside listed p q = p ∙ sym q
+kind_once : (machine : Machine) (u : Unfolded) (flow : Flow) (node : ℕ) (slots : List Slot) (number : ℕ) (kind : SlotKind) (c d : Class)
+    → IsKindClass machine u flow node slots number kind c → IsKindClass machine u flow node slots number kind d → c ≡ d
+kind_once machine u flow node slots number (Fetch line) c d p q =
+    class_once machine.shape u flow node (length (lines_fetched (take number slots))) line c d p q
+kind_once machine u flow node slots number Multiply c d p q = p ∙ sym q
+kind_once machine u flow node slots number Data c d p q = p ∙ sym q
 
 -- a line that an event fetches is among those fetched
 rest_fetched : (o : Option ℕ) (xs : List ℕ) (line : ℕ) → Contains xs line → Contains (cons_option o xs) line
@@ -184,28 +151,23 @@ line_listed u flow number node k slot line of stands event kind =
     one_of_contained flow.lines line ((of.lines line).1
     (number, accesses, slice_get_within flow.nodes number accesses is, get_or_from_slice_get flow.nodes number accesses accesses is, fetched_in (slots_of u.program node) k slot line event kind))
 
-one_table : LeastMustIsOne → LeastMayIsOne → LeastYoungerIsOne → (u : Unfolded) (machine : Machine) (flow : Flow) (a b : States) (xs ys : List (List Class))
-    → IsFlowOf u flow → AreLeast machine.shape u flow a → AreLeast machine.shape u flow b → length xs ≡ length u.nodes → length ys ≡ length u.nodes
-    → ((number : ℕ) (node : UNode) (classes : List Class) → slice_get u.nodes number ≡ Some node → slice_get xs number ≡ Some classes → AreNodeClasses machine u flow a number (slots_of u.program node) classes)
-    → ((number : ℕ) (node : UNode) (classes : List Class) → slice_get u.nodes number ≡ Some node → slice_get ys number ≡ Some classes → AreNodeClasses machine u flow b number (slots_of u.program node) classes)
+one_table : (u : Unfolded) (machine : Machine) (flow : Flow) (xs ys : List (List Class)) → length xs ≡ length u.nodes → length ys ≡ length u.nodes
+    → ((number : ℕ) (node : UNode) (classes : List Class) → slice_get u.nodes number ≡ Some node → slice_get xs number ≡ Some classes → AreNodeClasses machine u flow number (slots_of u.program node) classes)
+    → ((number : ℕ) (node : UNode) (classes : List Class) → slice_get u.nodes number ≡ Some node → slice_get ys number ≡ Some classes → AreNodeClasses machine u flow number (slots_of u.program node) classes)
     → xs ≡ ys
-one_table must may younger u machine flow a b xs ys of l m p q each other = same_lists xs ys (p ∙ sym q) (λ number cs ds s t.
+one_table u machine flow xs ys p q each other = same_lists xs ys (p ∙ sym q) (λ number cs ds s t.
     let node = element u.nodes number (omega (arith, p, slice_get_within xs number cs s)) in
     let slots = slots_of u.program node.0 in
     let one = each number node.0 cs node.1 s in
     let two = other number node.0 ds node.1 t in
     same_lists cs ds (one.long ∙ sym two.long) (λ k c d f g.
     let slot = element slots k (omega (arith, one.long, slice_get_within cs k c f)) in
-    kind_once must may younger machine u flow of a b l m number slots k slot.0.kind c d
-    (omega (arith, ap length of.nodes, length-map u.nodes (λ n. lines_fetched (slots_of u.program n)), slice_get_within u.nodes number node.0 node.1))
-    (λ line e. line_listed u flow number node.0 k slot.0 line of node.1 slot.1 e)
-    (one.each k slot.0 c slot.1 f) (two.each k slot.0 d slot.1 g)))
+    kind_once machine u flow number slots k slot.0.kind c d (one.each k slot.0 c slot.1 f) (two.each k slot.0 d slot.1 g)))
 
-pub classes_one : LeastMustIsOne → LeastMayIsOne → LeastYoungerIsOne → ClassesAreOne
-classes_one must may younger u machine table other a b =
+pub classes_one : ClassesAreOne
+classes_one u machine table other a b =
     let e : a.flow ≡ b.flow = flow_once u a.flow b.flow a.of b.of in
-    let slots : table.slots ≡ other.slots = one_table must may younger u machine b.flow a.states b.states table.slots other.slots b.of
-    (subst (λ (f : Flow). AreLeast machine.shape u f a.states) e a.least) b.least a.long b.long
+    let slots : table.slots ≡ other.slots = one_table u machine b.flow table.slots other.slots a.long b.long
     (subst (λ (f : Flow). (number : ℕ) (node : UNode) (classes : List Class) → slice_get u.nodes number ≡ Some node → slice_get table.slots number ≡ Some classes
-    → AreNodeClasses machine u f a.states number (slots_of u.program node) classes) e a.each) b.each in
+    → AreNodeClasses machine u f number (slots_of u.program node) classes) e a.each) b.each in
     λ i. record { slots = slots i }

@@ -1,16 +1,10 @@
 //! Laws of the definitions: nothing is computed here.
 ghost use Rattle.cache_class.specs.Laws.{ClassesAreOne, GroupsAreOne, UnfoldingsFlow};
 
-use cache_flow::{least_may_is_one, least_must_is_one, least_younger_is_one};
-
 /// An unfolding has one table of classes on a machine.
 pub fn classes_are_one()
     ensures { ClassesAreOne }
-{
-    least_must_is_one();
-    least_may_is_one();
-    least_younger_is_one();
-}
+{}
 
 /// A table has one list of groups.
 pub fn groups_are_one()

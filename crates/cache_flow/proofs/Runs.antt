@@ -146,7 +146,7 @@ known_at shape younger (x ∷ xs) (suc k) line h e = known_at shape (younger_acc
 abbrev AreListed : Flow → List ℕ → Type 0
 AreListed flow xs = All (λ line. is_one_of flow.lines line ≡ true) xs
 
-listed_at : (flow : Flow) (node : ℕ) → IsFlow flow → AreListed flow (accesses_of flow node)
+pub listed_at : (flow : Flow) (node : ℕ) → IsFlow flow → AreListed flow (accesses_of flow node)
 listed_at flow node is = elim (cases_lt node (length flow.nodes)) [
   | inl h ↦ All-get_or (λ accesses. AreListed flow accesses) flow.nodes node [] h is.listed
   | inr h ↦ rw (get_or_past flow.nodes node [] h) (All-nil (λ line. is_one_of flow.lines line ≡ true))

@@ -1,3 +1,4 @@
 pub mod Flows
 pub mod Solutions
 pub mod Laws
+pub mod Shown

@@ -1,6 +1,7 @@
 //! Laws of the definitions: nothing is computed here.
 ghost use Rattle.cache_flow.specs.Laws.{MustSolutionsHold, MaySolutionsHold, YoungerSolutionsHold, HeldLinesAreThere};
 ghost use Rattle.cache_flow.specs.Laws.{BarredLinesAreAbsent, KeptInStays, LeastMustIsOne, LeastMayIsOne, LeastYoungerIsOne};
+ghost use Rattle.cache_flow.specs.Shown.{LeastMustShows, LeastMayShows, LeastYoungerShows};
 
 use cache_ages::{may_access_covers, may_bars_line, must_access_covers, must_holds_line};
 use cache_lru::access_keeps_cache;
@@ -70,4 +71,11 @@ pub fn least_may_is_one()
 /// Two least solutions of a part tell the same of the flow's lines at each member.
 pub fn least_younger_is_one()
     ensures { LeastYoungerIsOne }
+{}
+
+/// The least solutions show at an access what some solution shows there.
+pub fn least_solutions_show()
+    ensures must { LeastMustShows }
+    ensures may { LeastMayShows }
+    ensures younger { LeastYoungerShows }
 {}

@@ -225,6 +225,38 @@ alike_more IsIt [] new all is (suc n) s e = absurd (omega (arith, slice_get_with
 alike_more IsIt (x ∷ states) new all is zero s e = all 0 s e
 alike_more IsIt (x ∷ states) new all is (suc n) s e = alike_more IsIt states new (λ m t f. all (suc m) t f) is n s e
 
+-- what some moves have done that need not be all that a sweep follows
+pub record FollowedSoFar {S V : Type 0} (Covers : V → V → Type 0) (access : V → ℕ → V) (known : S → V) (left : S → ℕ) (IsIt : S → Type 0) (flow : Flow) (moves : List Move) (changed : Bool)
+    (old new : List S) : Type 0 where
+  pub alike : AreAlike IsIt new
+  pub raised : AreRaised Covers access known flow moves old new
+  pub falls : changed ≡ true → sum_by left new < sum_by left old
+  pub stands : changed ≡ false → new ≡ old
+
+-- one move more of them
+pub followed_more : {S V : Type 0} (Covers : V → V → Type 0) (access : V → ℕ → V) (known : S → V) (left : S → ℕ) (IsIt : S → Type 0) (flow : Flow) (moves : List Move)
+    (same : (x : V) → Covers x x) (joins : (x y z : V) → Covers x y → Covers y z → Covers x z)
+    (i : ℕ) (step : Move) (was now did : Bool) (old cur new : List S) → i < length moves → get_or moves i step ≡ step
+    → AreAlike IsIt new → AreRaised Covers access known flow (step ∷ []) cur new → (did ≡ true → sum_by left new < sum_by left cur) → (did ≡ false → new ≡ cur)
+    → ((did ≡ true) × (now ≡ true)) ⊎ ((did ≡ false) × (now ≡ was))
+    → FollowedSoFar Covers access known left IsIt flow moves was old cur → FollowedSoFar Covers access known left IsIt flow moves now old new
+followed_more {S} {V} Covers access known left IsIt flow moves same joins i step was now did old cur new h is alike raised falls stands cases so = record {
+  alike = alike;
+  raised = raised_twice Covers access known flow same joins moves (step ∷ []) old cur new
+      (λ m c. subst (λ (x : Move). Contains moves x) (one_contained step m c) (i, h, is)) so.raised raised;
+  falls = λ t. elim cases [
+    | inl p ↦ elim (cases_Bool was) [
+      | inl w ↦ omega (arith, falls p.0, so.falls w)
+      | inr w ↦ omega (arith, falls p.0, ap (sum_by left) (so.stands w))
+    ]
+    | inr p ↦ omega (arith, so.falls (sym p.1 ∙ t), ap (sum_by left) (stands p.0))
+  ];
+  stands = λ f. elim cases [
+    | inl p ↦ absurd (true≢false (sym p.1 ∙ f))
+    | inr p ↦ stands p.0 ∙ so.stands (sym p.1 ∙ f)
+  ];
+}
+
 -- one move more of a sweep
 pub swept_more : {S V : Type 0} (Covers : V → V → Type 0) (access : V → ℕ → V) (known : S → V) (left : S → ℕ) (IsIt : S → Type 0) (flow : Flow) (moves : List Move)
     (same : (x : V) → Covers x x) (joins : (x y z : V) → Covers x y → Covers y z → Covers x z)

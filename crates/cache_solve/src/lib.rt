@@ -1,6 +1,7 @@
 //! The least solutions over the flow of a program: what is known of a cache at each of its nodes.
 #![tactic(auto)]
 
+mod marks;
 mod may;
 mod must;
 mod passing;

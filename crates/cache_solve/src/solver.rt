@@ -5,6 +5,7 @@ ghost use Rattle.cache_ages.specs.Bounds.{is_one_of};
 ghost use Rattle.cache_flow.specs.Flows.{IsFlow};
 ghost use Rattle.cache_solve.specs.Systems.{AreAlike, AreFirst, IsFirst, AreListed, AreRaised, AreSettled, AreWithin, IsBehind, IsLeast, IsOf};
 
+use crate::marks::Marks;
 use crate::state::State;
 use cache_flow::{Flow, Move};
 use std::alloc::Global;
@@ -82,7 +83,90 @@ fn sweep<S: State>(
     Ok(changed)
 }
 
-/// Follows the moves until nothing changes.
+/// Follows a move if the state of its source has changed; whether that changed the target's state.
+fn retrace<S: State>(
+    alloc: Global,
+    shape: Shape,
+    flow: &Flow,
+    states: &mut [S],
+    step: Move,
+    marks: &mut Marks,
+) -> Result<bool, NoMemory>
+    requires flow { AreListed flow.now }
+    requires long { length states.old ≡ length flow.now.nodes }
+    requires from { step.from < length flow.now.nodes }
+    requires to { step.to < length flow.now.nodes }
+    requires alike { AreAlike (IsOf S.known S.shape_of S.lines_of S.IsWithin shape flow.now.lines) states.old }
+    requires marks { length marks.old.changed.items ≡ length flow.now.nodes }
+    ensures alike { OnOk result (AreAlike (IsOf S.known S.shape_of S.lines_of S.IsWithin shape flow.now.lines) states.new) }
+    ensures raised { OnOk result (AreRaised (S.Covers flow.now.lines) (S.accessed shape) S.known flow.now (step ∷ []) states.old states.new) }
+    ensures changed { IfOk result (λ changed. changed ≡ true → sum_by S.left states.new < sum_by S.left states.old) }
+    ensures unchanged { IfOk result (λ changed. changed ≡ false → states.new ≡ states.old) }
+    ensures marks { length marks.new.changed.items ≡ length flow.now.nodes }
+{
+    S::order();
+    if !marks.wants(step.from) {
+        return Ok(false);
+    }
+    let changed = follow(alloc, shape, flow, states, step)?;
+    if changed {
+        marks.mark(step.to);
+    }
+    Ok(changed)
+}
+
+/// Follows the moves of the marked nodes once; whether a state changed. Where the moves of a node stand together, none is
+/// left out that can change a state.
+fn catch_up<S: State>(
+    alloc: Global,
+    shape: Shape,
+    flow: &Flow,
+    moves: &[Move],
+    states: &mut [S],
+    marks: &mut Marks,
+) -> Result<bool, NoMemory>
+    requires flow { AreListed flow.now }
+    requires long { length states.old ≡ length flow.now.nodes }
+    requires moves { AreWithin flow.now moves.now }
+    requires alike { AreAlike (IsOf S.known S.shape_of S.lines_of S.IsWithin shape flow.now.lines) states.old }
+    requires marks { length marks.old.changed.items ≡ length flow.now.nodes }
+    ensures alike { OnOk result (AreAlike (IsOf S.known S.shape_of S.lines_of S.IsWithin shape flow.now.lines) states.new) }
+    ensures raised { OnOk result (AreRaised (S.Covers flow.now.lines) (S.accessed shape) S.known flow.now moves.now states.old states.new) }
+    ensures changed { IfOk result (λ changed. changed ≡ true → sum_by S.left states.new < sum_by S.left states.old) }
+    ensures marks { length marks.new.changed.items ≡ length flow.now.nodes }
+{
+    S::order();
+    let mut changed = false;
+    for step in moves {
+        if retrace(alloc, shape, flow, states, *step, marks)? {
+            changed = true;
+        }
+    }
+    Ok(changed)
+}
+
+/// Follows the moves of nodes that have changed until none has.
+fn hurry<S: State>(
+    alloc: Global,
+    shape: Shape,
+    flow: &Flow,
+    moves: &[Move],
+    states: &mut [S],
+) -> Result<(), NoMemory>
+    requires flow { AreListed flow.now }
+    requires long { length states.old ≡ length flow.now.nodes }
+    requires moves { AreWithin flow.now moves.now }
+    requires alike { AreAlike (IsOf S.known S.shape_of S.lines_of S.IsWithin shape flow.now.lines) states.old }
+    ensures alike { OnOk result (AreAlike (IsOf S.known S.shape_of S.lines_of S.IsWithin shape flow.now.lines) states.new) }
+    ensures raised { OnOk result (AreRaised (S.Covers flow.now.lines) (S.accessed shape) S.known flow.now moves.now states.old states.new) }
+{
+    S::order();
+    let mut marks = Marks::new(alloc, flow.nodes.len())?;
+    'passes: while catch_up(alloc, shape, flow, moves, states, &mut marks)? {}
+    Ok(())
+}
+
+/// Follows the moves until nothing changes: at first those of nodes that have changed, and then, which decides, all.
 pub(crate) fn settle<S: State>(
     alloc: Global,
     shape: Shape,
@@ -99,6 +183,7 @@ pub(crate) fn settle<S: State>(
     ensures settled { OnOk result (AreSettled (S.Covers flow.now.lines) (S.accessed shape) S.known flow.now moves.now states.new) }
 {
     S::order();
+    hurry(alloc, shape, flow, moves, states)?;
     'sweeps: while sweep(alloc, shape, flow, moves, states)? {}
     Ok(())
 }

@@ -102,7 +102,7 @@ pub record PaysEdges (u : Unfolded) (m : Machine) (classes : Classes) (c : Certi
       → IsAllowed kinds f
       → PaysOn u c number edge (v.potential + missed c.charges f block kinds) (exit_from m v.slots.slots (entries_of block f) edge.taken)
 
--- The bound is the potential of the first vector of the start's family that covers the empty pipeline's, and what is paid at the start.
+-- The bound is made of two parts: what the start's first vector that covers the empty pipeline promises, and what is paid at the start.
 pub record HasBound (u : Unfolded) (c : Certificate) : Type 0 where
   pub vector : CertVector
   pub first : IsFirstCovering u c vector

@@ -16,3 +16,4 @@ pub mod BlockLemmas
 pub mod AgainLemmas
 pub mod SameLemmas
 pub mod SpellLemmas
+pub mod KeyLemmas

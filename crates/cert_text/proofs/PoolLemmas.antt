@@ -1,20 +1,19 @@
 -- Lists of slots in order, and the places in them.
-use Rattle.std.proofs.Common.{◌≡◌, ℕ, zero, suc, ◌+◌, ◌<◌, ◌≤◌, Bool, true, false, cond, ◌||◌, List, [], ◌∷◌, length, get_or, take, Err, refl, sym, ◌∙◌, ap, subst, arith, ⊎_elim, true≢false}
+use Rattle.std.proofs.Common.{◌≡◌, ℕ, zero, suc, ◌+◌, ◌<◌, ◌≤◌, Bool, true, false, ◌||◌, List, [], ◌∷◌, length, get_or, take, refl, sym, ◌∙◌, ap, subst, arith, true≢false}
 use Rattle.std.specs.List.{AllByRecursion}
-use Rattle.std.specs.List.Sorted.{IsStrictlySortedBy, IsBinarySearchResult}
-use Rattle.std.specs.Ordering.{nat_cmp, is_eq, ordering_index, ordering_reverse}
+use Rattle.std.specs.List.Sorted.{IsStrictlySortedBy}
+use Rattle.std.specs.Ordering.{nat_cmp, is_eq, ordering_reverse}
 use Rattle.std.specs.Cmp.Lexicographic.{slice_cmp}
 use Rattle.std.specs.declared.cmp.Ordering.{Ordering}
 use Rattle.std.specs.declared.cmp.Ordering.TheVariants.{Less, Equal, Greater}
-use Rattle.std.proofs.lemmas.Cmp.{nat_list_cmp_total, eq_by_cmp_equiv}
-use Rattle.std.proofs.lemmas.Bool.{cases_lt}
+use Rattle.std.proofs.lemmas.Cmp.{nat_list_cmp_total}
 use Rattle.std.proofs.lemmas.List.Folds.{list_any_more}
 use Rattle.std.proofs.lemmas.Map.Keys.{Less-from_sorted}
 use Rattle.std.proofs.lemmas.Map.Text.{is_eq-slice_cmp}
 use Rattle.std.proofs.lemmas.Slice.Eq.{bytes_eq-Decides}
 use Rattle.cert_items.specs.Order.{is_less}
 use Rattle.cert_text.specs.declared.certificate.CertVector.{CertVector}
-use Rattle.cert_text.specs.Pool.{is_same, is_listed, is_of, is_used, IsPool, HasVectors, place_in}
+use Rattle.cert_text.specs.Pool.{is_same, is_listed, is_of, IsPool, HasVectors, place_in}
 
 abbrev pub compare : List ℕ → List ℕ → Ordering
 compare a b = slice_cmp nat_cmp a b
@@ -136,25 +135,6 @@ place_at (x ∷ pool) slots zero inside below from = rw (from [] (omega arith)) 
 place_at (x ∷ pool) slots (suc i) inside below from =
     rw (below 0 [] (omega arith), place_at pool slots i (omega (arith, inside)) (λ k d less. below (suc k) d (omega (arith, less))) (λ d less. from d (omega (arith, less)))) (omega arith)
 
-index_rises : (a b slots : List ℕ) (o : Ordering) → compare b slots ≡ o → compare a b ≡ Less → ordering_index (compare a slots) ≤ ordering_index o
-index_rises a b slots Less e less = rw (chain a b slots less e) (omega arith)
-index_rises a b slots Equal e less =
-    let p : compare a slots ≡ Less = subst (λ z. compare a z ≡ Less) (equal_same b slots e) less in
-    rw p (omega arith)
-index_rises a b slots Greater e less = most (compare a slots)
-  where
-    most : (o : Ordering) → ordering_index o ≤ ordering_index Greater
-    most Less = omega arith
-    most Equal = omega arith
-    most Greater = omega arith
-
-index_order : (pool : List (List ℕ)) (slots : List ℕ) → AreSorted pool → (i j : ℕ) (d : List ℕ) → i ≤ j → j < length pool
-    → ordering_index (compare (get_or pool i d) slots) ≤ ordering_index (compare (get_or pool j d) slots)
-index_order pool slots s i j d order inside = ⊎_elim
-    (λ less. index_rises (get_or pool i d) (get_or pool j d) slots (compare (get_or pool j d) slots) refl (Less-from_sorted (slice_cmp nat_cmp) pool i j d s less inside))
-    (λ more. let same : i ≡ j = omega (arith, order, more) in rw same (omega arith))
-    (cases_lt i j)
-
 -- what the search for slots answers is their place
 pub place_found : (pool : List (List ℕ)) (slots : List ℕ) (i : ℕ) → AreSorted pool → i < length pool → ((d : List ℕ) → compare (get_or pool i d) slots ≡ Equal) → place_in pool slots ≡ i
 place_found pool slots i s inside here =
@@ -162,53 +142,15 @@ place_found pool slots i s inside here =
     (λ k d less. subst (λ z. compare (get_or pool k d) z ≡ Less) (equal_same (get_or pool i d) slots (here d)) (Less-from_sorted (slice_cmp nat_cmp) pool k i d s less inside))
     (λ d less. ap is_less (here d))
 
-pub place_missed : (pool : List (List ℕ)) (slots : List ℕ) (i : ℕ) → AreSorted pool → i ≤ length pool → IsBinarySearchResult (λ y. slice_cmp nat_cmp y slots) pool (Err i) → place_in pool slots ≡ i
-place_missed pool slots i s inside found =
-    let parted = found (λ a b d order less. index_order pool slots s a b d order less) in
-    place_at pool slots i inside (λ k d less. parted.0 k d (omega arith) less) (λ d less. ap is_less (parted.1 i d (omega arith) less))
-
-pub place_bound : (pool : List (List ℕ)) (slots : List ℕ) → place_in pool slots ≤ length pool
-place_bound [] slots = omega arith
-place_bound (x ∷ pool) slots = step (is_less (compare x slots)) (place_bound pool slots)
-  where
-    step : (b : Bool) → place_in pool slots ≤ length pool → cond {A = ℕ} b (place_in pool slots + 1) 0 ≤ length (x ∷ pool)
-    step true n = omega (arith, n)
-    step false n = omega arith
-
 -- ---- a set that grows
-same_swap : (a b : List ℕ) → is_same a b ≡ is_same b a
-same_swap a b = (eq_by_cmp_equiv nat_list_cmp_total).symm a b
-
 or_assoc : (a b c : Bool) → ((a || b) || c) ≡ (a || (b || c))
 or_assoc true b c = refl
 or_assoc false b c = refl
 
-put_in : (b now : Bool) → cond b true now ≡ (now || b)
-put_in true true = refl
-put_in true false = refl
-put_in false true = refl
-put_in false false = refl
-
 -- one vector more
-pub vector_added : (family : List CertVector) (i : ℕ) (d : CertVector) (key q : List ℕ) (old now new : Bool) → i < length family → key ≡ (get_or family i d).slots.slots → now ≡ (old || is_of q (take i family)) → new ≡ cond (is_same key q) true now
+pub vector_added : (family : List CertVector) (i : ℕ) (d : CertVector) (slots q : List ℕ) (old now new : Bool) → i < length family → slots ≡ (get_or family i d).slots.slots → now ≡ (old || is_of q (take i family)) → new ≡ (now || is_same q slots)
     → new ≡ (old || is_of q (take (i + 1) family))
-vector_added family i d key q old now new inside here so step =
+vector_added family i d slots q old now new inside here so step =
     let more : is_of q (take (i + 1) family) ≡ (is_of q (take i family) || is_same q (get_or family i d).slots.slots) = list_any_more (λ (v : CertVector). is_same q v.slots.slots) family i d inside in
-    step ∙ put_in (is_same key q) now ∙ ap (λ b. b || is_same key q) so ∙ or_assoc old (is_of q (take i family)) (is_same key q)
-    ∙ ap (λ b. old || (is_of q (take i family) || b)) (same_swap key q ∙ ap (is_same q) here) ∙ ap (λ b. old || b) (sym more)
-
--- the vectors of one node more
-pub family_added : (families : List (List CertVector)) (i : ℕ) (d : List CertVector) (q : List ℕ) (now new : Bool) → i < length families → now ≡ is_used q (take i families) → new ≡ (now || is_of q (get_or families i d)) → new ≡ is_used q (take (i + 1) families)
-family_added families i d q now new inside so step =
-    step ∙ ap (λ b. b || is_of q (get_or families i d)) so ∙ sym (list_any_more (is_of q) families i d inside)
-
-pub nothing_added : (old now : Bool) → now ≡ old → now ≡ (old || false)
-nothing_added true now e = e
-nothing_added false now e = e
-
--- what the search for slots answers, as the code says it
-pub found_place : (pool : List (List ℕ)) (slots : List ℕ) (i : ℕ) → AreSorted pool → i < length pool → ((d : List ℕ) → slice_cmp nat_cmp (get_or pool i d) slots ≡ Equal) → i ≡ place_in pool slots
-found_place pool slots i s inside here = sym (place_found pool slots i s inside here)
-
-pub missed_place : (pool : List (List ℕ)) (slots : List ℕ) (i : ℕ) → AreSorted pool → i ≤ length pool → IsBinarySearchResult (λ y. slice_cmp nat_cmp y slots) pool (Err i) → i ≡ place_in pool slots
-missed_place pool slots i s inside found = sym (place_missed pool slots i s inside found)
+    step ∙ ap (λ b. b || is_same q slots) so ∙ or_assoc old (is_of q (take i family)) (is_same q slots)
+    ∙ ap (λ (z : List ℕ). old || (is_of q (take i family) || is_same q z)) here ∙ ap (λ b. old || b) (sym more)

@@ -52,12 +52,12 @@ seven old a b c d e f g =
     append_assoc (((((old ++ a) ++ b) ++ c) ++ d) ++ e) f g ∙ append_assoc ((((old ++ a) ++ b) ++ c) ++ d) e (f ++ g) ∙ append_assoc (((old ++ a) ++ b) ++ c) d (e ++ (f ++ g))
     ∙ append_assoc ((old ++ a) ++ b) c (d ++ (e ++ (f ++ g))) ∙ append_assoc (old ++ a) b (c ++ (d ++ (e ++ (f ++ g)))) ∙ append_assoc old a (b ++ (c ++ (d ++ (e ++ (f ++ g)))))
 
-pub lines_text : (old o1 o2 o3 o4 o5 o6 : List ℕ) (vectors : List (List ℕ)) (c : Certificate) (families : List (List CertVector)) (charges : List Charge) (multipliers : List ℕ) (totals : List TotalPrice)
-    → families ≡ c.families → charges ≡ c.charges → multipliers ≡ c.multipliers → totals ≡ c.totals
-    → o1 ≡ old ++ (line_text (item.Head Two) ++ line_text (item.Count (length vectors))) → o2 ≡ o1 ++ text_of (map listed_item vectors) → o3 ≡ o2 ++ text_of (node_items vectors 0 families) → o4 ≡ o3 ++ text_of (map charge_item charges)
+pub lines_text : (old o1 o2 o3 o4 o5 o6 : List ℕ) (vectors listed : List (List ℕ)) (count : ℕ) (c : Certificate) (families : List (List CertVector)) (charges : List Charge) (multipliers : List ℕ) (totals : List TotalPrice)
+    → count ≡ length vectors → listed ≡ vectors → families ≡ c.families → charges ≡ c.charges → multipliers ≡ c.multipliers → totals ≡ c.totals
+    → o1 ≡ old ++ (line_text (item.Head Two) ++ line_text (item.Count count)) → o2 ≡ o1 ++ text_of (map listed_item listed) → o3 ≡ o2 ++ text_of (node_items vectors 0 families) → o4 ≡ o3 ++ text_of (map charge_item charges)
     → o5 ≡ o4 ++ text_of (multiplier_items 0 multipliers) → o6 ≡ o5 ++ text_of (map total_item totals)
     → o6 ++ (line_text (item.Bound c.bound) ++ line_text item.End) ≡ old ++ text_of (items_of vectors c)
-lines_text old o1 o2 o3 o4 o5 o6 vectors c families charges multipliers totals fe ke me te e1 e2 e3 e4 e5 e6 =
+lines_text old o1 o2 o3 o4 o5 o6 vectors listed count c families charges multipliers totals ne le fe ke me te e1 e2 e3 e4 e5 e6 =
     let a = line_text (item.Head Two) ++ line_text (item.Count (length vectors)) in
     let b = text_of (map listed_item vectors) in
     let n = text_of (node_items vectors 0 c.families) in
@@ -65,7 +65,8 @@ lines_text old o1 o2 o3 o4 o5 o6 vectors c families charges multipliers totals f
     let m = text_of (multiplier_items 0 c.multipliers) in
     let t = text_of (map total_item c.totals) in
     let g = line_text (item.Bound c.bound) ++ line_text item.End in
-    let h2 : o2 ≡ (old ++ a) ++ b = e2 ∙ ap (λ x. x ++ b) e1 in
+    let h1 : o1 ≡ old ++ a = e1 ∙ ap (λ n. old ++ (line_text (item.Head Two) ++ line_text (item.Count n))) ne in
+    let h2 : o2 ≡ (old ++ a) ++ b = e2 ∙ ap (λ x. o1 ++ text_of (map listed_item x)) le ∙ ap (λ x. x ++ b) h1 in
     let h3 : o3 ≡ ((old ++ a) ++ b) ++ n = e3 ∙ ap (λ x. o2 ++ text_of (node_items vectors 0 x)) fe ∙ ap (λ x. x ++ n) h2 in
     let h4 : o4 ≡ (((old ++ a) ++ b) ++ n) ++ k = e4 ∙ ap (λ x. o3 ++ text_of (map charge_item x)) ke ∙ ap (λ x. x ++ k) h3 in
     let h5 : o5 ≡ ((((old ++ a) ++ b) ++ n) ++ k) ++ m = e5 ∙ ap (λ x. o4 ++ text_of (multiplier_items 0 x)) me ∙ ap (λ x. x ++ m) h4 in

@@ -1,5 +1,5 @@
 -- What holds of the texts of all certificates.
-use Rattle.std.specs.Prelude.{◌≡◌, ◌≢◌, ℕ, List, [], ◌++◌}
+use Rattle.std.specs.Prelude.{◌≡◌, ◌≢◌, ◌<◌, ◌^◌, ℕ, List, [], ◌++◌, length}
 use Rattle.cert_lines.specs.declared.kind.Version.TheVariants.{Two}
 use Rattle.cert_text.specs.declared.certificate.Certificate.{Certificate}
 use Rattle.cert_text.specs.Text.{IsTextOf}
@@ -22,6 +22,10 @@ WrittenTells = (c : Certificate) (bytes : List ℕ) → IsWritable c → IsWritt
 -- a text of version 2 is what is written of the certificate that it tells
 abbrev pub TextIsWritten : Type 0
 TextIsWritten = (c : Certificate) (bytes : List ℕ) (t : IsTextOf bytes c) → t.version ≡ Two → IsWritten bytes c
+
+-- a certificate that some text tells can be written, if the text has fewer than 2^32 bytes
+abbrev pub ReadIsWritable : Type 0
+ReadIsWritable = (c : Certificate) (bytes : List ℕ) → length bytes < 2 ^ 32 → IsTextOf bytes c → IsWritable c
 
 -- no proper front of a text is a text
 abbrev pub NoTextWithin : Type 0

@@ -1,5 +1,5 @@
 -- The different vectors of a certificate. This project's own format.
-use Rattle.std.specs.Prelude.{◌≡◌, ℕ, ◌+◌, Bool, List, [], ◌∷◌, length, if◌then◌else◌}
+use Rattle.std.specs.Prelude.{◌≡◌, ℕ, ◌+◌, Bool, true, List, [], ◌∷◌, length, All, if◌then◌else◌}
 use Rattle.std.specs.List.{list_any}
 use Rattle.std.specs.List.Sorted.{IsStrictlySortedBy}
 use Rattle.std.specs.Ordering.{nat_cmp, is_eq}
@@ -18,6 +18,10 @@ is_before a b = is_less (slice_cmp nat_cmp a.slots.slots b.slots.slots)
 -- whether the slots are those of one of these vectors
 abbrev pub is_listed : List ℕ → List (List ℕ) → Bool
 is_listed slots pool = list_any (is_same slots) pool
+
+-- each vector of the node is one of these
+abbrev pub Lists : List (List ℕ) → List CertVector → Type 0
+Lists pool family = All (λ v. is_listed v.slots.slots pool ≡ true) family
 
 -- whether a vector of the node has these slots
 abbrev pub is_of : List ℕ → List CertVector → Bool

@@ -1,5 +1,5 @@
 //! Laws of the definitions: nothing is computed here.
-ghost use Rattle.cert_text.specs.Laws.{CountIsOne, TextIsOne, WrittenTells, TextIsWritten, NoTextWithin};
+ghost use Rattle.cert_text.specs.Laws.{CountIsOne, TextIsOne, WrittenTells, TextIsWritten, ReadIsWritable, NoTextWithin};
 
 use cert_lines::no_lines_within;
 
@@ -21,6 +21,11 @@ pub fn written_tells()
 /// A text of version 2 that tells a certificate is the one that is written of it.
 pub fn text_is_written()
     ensures { TextIsWritten }
+{}
+
+/// A certificate that some text tells can be written, if the text has fewer than 2^32 bytes.
+pub fn what_is_read_is_writable()
+    ensures { ReadIsWritable }
 {}
 
 /// No proper front of a certificate's text is one.

@@ -1,21 +1,20 @@
 //! The lines of version 2 of a certificate's text.
 
 ghost use Rattle.std.specs.Prelude.{◌≡◌, [], ◌∷◌, ◌++◌, Some, map, OnOk};
-ghost use Rattle.std.specs.List.Sorted.{IsStrictlySortedBy};
-ghost use Rattle.std.specs.Ordering.{nat_cmp};
-ghost use Rattle.std.specs.Cmp.Lexicographic.{slice_cmp};
 ghost use Rattle.wx_text.specs.Decimal.{decimal};
 ghost use Rattle.cert_lines.specs.declared.kind.Version.TheVariants.{Two};
 ghost use Rattle.cert_lines.specs.declared.kind.Kind.TheVariants as kind;
 ghost use Rattle.cert_lines.specs.declared.kind.Role.TheVariants as role;
 ghost use Rattle.cert_items.specs.declared.item.Item.TheVariants as item;
 ghost use Rattle.cert_items.specs.Said.{scope_word, flat};
+ghost use Rattle.cert_text.specs.Pool.{Lists};
 ghost use Rattle.cert_text.specs.Written.{pairs_from, listed_item, place_of, charge_item, total_item, spelled, line_text};
 
 use crate::certificate::{CertVector, Charge, TotalPrice};
-use crate::pool::{Slots, place_in};
+use crate::pool::{Pool, Slots};
 use flow_ctx::Scope;
-use wx_text::{NoMemory, push_number, push_word};
+use itoa::Buffer;
+use wx_text::{NoMemory, push_word};
 
 /// Appends a text.
 fn push(out: &mut Vec<u8>, text: &[u8]) -> Result<(), NoMemory>
@@ -29,7 +28,8 @@ fn push(out: &mut Vec<u8>, text: &[u8]) -> Result<(), NoMemory>
 fn push_decimal(out: &mut Vec<u8>, number: u64) -> Result<(), NoMemory>
     ensures { OnOk result (out.new.items ≡ out.old.items ++ decimal number) }
 {
-    push_number(out, i128::from(number))
+    let mut digits = Buffer::new();
+    push(out, digits.format(number).as_bytes())
 }
 
 /// Appends the last number of a line, and the line's end.
@@ -74,26 +74,30 @@ pub(crate) fn push_listed(out: &mut Vec<u8>, slots: &Slots) -> Result<(), NoMemo
 }
 
 /// Appends the potentials of vectors, each with the place of its slots.
-fn push_places(out: &mut Vec<u8>, pool: &[Slots], family: &[CertVector]) -> Result<(), NoMemory>
-    requires { IsStrictlySortedBy (slice_cmp nat_cmp) pool.now }
+fn push_places<'a>(
+    out: &mut Vec<u8>,
+    pool: &Pool<'a>,
+    family: &'a [CertVector],
+) -> Result<(), NoMemory>
+    requires { Lists pool.now family.now }
     ensures { OnOk result (out.new.items ≡ out.old.items
         ++ spelled kind.Places (Some role.Left) (map decimal (flat (map (place_of pool.now) family.now)))) }
 {
     for vector in family {
-        let place = place_in(pool, &vector.slots.slots);
+        let place = pool.place(&vector.slots.slots);
         push_pair(out, vector.potential, place as u64)?;
     }
     Ok(())
 }
 
 /// Appends the line of a node.
-pub(crate) fn push_node(
+pub(crate) fn push_node<'a>(
     out: &mut Vec<u8>,
-    pool: &[Slots],
+    pool: &Pool<'a>,
     number: u64,
-    family: &[CertVector],
+    family: &'a [CertVector],
 ) -> Result<(), NoMemory>
-    requires { IsStrictlySortedBy (slice_cmp nat_cmp) pool.now }
+    requires { Lists pool.now family.now }
     ensures { OnOk result (out.new.items ≡ out.old.items
         ++ line_text (item.Places number (map (place_of pool.now) family.now))) }
 {

@@ -1,15 +1,12 @@
 //! The text of version 2 of a certificate.
 
-ghost use Rattle.std.specs.Prelude.{◌≡◌, ◌++◌, map, length, IfOk, OnOk, OnErr};
-ghost use Rattle.std.specs.List.Sorted.{IsStrictlySortedBy};
-ghost use Rattle.std.specs.Ordering.{nat_cmp};
-ghost use Rattle.std.specs.Cmp.Lexicographic.{slice_cmp};
-ghost use Rattle.cert_text.specs.Pool.{HasVectors};
+ghost use Rattle.std.specs.Prelude.{◌≡◌, ◌++◌, map, length, All, IfOk, OnOk, OnErr};
+ghost use Rattle.cert_text.specs.Pool.{Lists, IsPool, HasVectors};
 ghost use Rattle.cert_text.specs.Written.{listed_item, node_items, charge_item, multiplier_items, total_item, text_of, items_of, IsWith};
 ghost use Rattle.cert_text.specs.Writable.{IsWritable};
 
 use crate::certificate::{Certificate, Charge, Family, TotalPrice};
-use crate::pool::{Slots, pool};
+use crate::pool::{Pool, Slots};
 use crate::spell::{
     push_bound, push_charge, push_head, push_listed, push_multiplier, push_node, push_total,
 };
@@ -17,18 +14,23 @@ use std::alloc::Global;
 use wx_text::NoMemory;
 
 /// Appends the lines of the different vectors.
-fn push_vectors(out: &mut Vec<u8>, pool: &[Slots]) -> Result<(), NoMemory>
-    ensures { OnOk result (out.new.items ≡ out.old.items ++ text_of (map listed_item pool.now)) }
+fn push_vectors(out: &mut Vec<u8>, vectors: &[&Slots]) -> Result<(), NoMemory>
+    ensures { OnOk result (out.new.items
+        ≡ out.old.items ++ text_of (map listed_item (map (λ slots. slots.now) vectors.now))) }
 {
-    for slots in pool {
+    for slots in vectors {
         push_listed(out, slots)?;
     }
     Ok(())
 }
 
 /// Appends the lines of the nodes.
-fn push_nodes(out: &mut Vec<u8>, pool: &[Slots], families: &[Family]) -> Result<(), NoMemory>
-    requires { IsStrictlySortedBy (slice_cmp nat_cmp) pool.now }
+fn push_nodes<'a>(
+    out: &mut Vec<u8>,
+    pool: &Pool<'a>,
+    families: &'a [Family],
+) -> Result<(), NoMemory>
+    requires { All (Lists pool.now) families.now }
     ensures { OnOk result (out.new.items ≡ out.old.items ++ text_of (node_items pool.now 0 families.now)) }
 {
     for (number, family) in families.iter().enumerate() {
@@ -68,12 +70,12 @@ fn push_totals(out: &mut Vec<u8>, totals: &[TotalPrice]) -> Result<(), NoMemory>
 }
 
 /// Appends all lines, with these as the different vectors.
-fn push_lines(out: &mut Vec<u8>, pool: &[Slots], c: &Certificate) -> Result<(), NoMemory>
-    requires { IsStrictlySortedBy (slice_cmp nat_cmp) pool.now }
+fn push_lines<'a>(out: &mut Vec<u8>, pool: &Pool<'a>, c: &'a Certificate) -> Result<(), NoMemory>
+    requires { IsPool c.now.families pool.now }
     ensures { OnOk result (out.new.items ≡ out.old.items ++ text_of (items_of pool.now c.now)) }
 {
     push_head(out, pool.len() as u64)?;
-    push_vectors(out, pool)?;
+    push_vectors(out, pool.as_slice())?;
     push_nodes(out, pool, c.families.as_slice())?;
     push_charges(out, c.charges.as_slice())?;
     push_multipliers(out, c.multipliers.as_slice())?;
@@ -91,18 +93,29 @@ pub fn write_cert(out: &mut Vec<u8>, c: &Certificate) -> Result<(), NoMemory>
     ensures written { OnOk result (IsWith out.new.items out.old.items c.now) }
     ensures kept { OnErr result (out.new.items ≡ out.old.items) }
 {
-    let alloc = *out.allocator();
-    let pool = pool(alloc, c.families.as_slice())?;
-    let mut text = Vec::new(alloc);
-    push_lines(&mut text, pool.as_slice(), c)?;
-    out.extend_from_slice(text.as_slice())?;
+    let _count = write_counted(out, c)?;
     Ok(())
+}
+
+/// Appends the text as `write_cert` does, and gives the number of its `v` lines: how many different vectors the nodes have.
+pub fn write_counted(out: &mut Vec<u8>, c: &Certificate) -> Result<u64, NoMemory>
+    requires { IsWritable c.now }
+    ensures written { OnOk result (IsWith out.new.items out.old.items c.now) }
+    ensures count { IfOk result (λ count. HasVectors c.now.families count) }
+    ensures kept { OnErr result (out.new.items ≡ out.old.items) }
+{
+    let alloc = *out.allocator();
+    let pool = Pool::new(alloc, c.families.as_slice())?;
+    let mut text = Vec::new(alloc);
+    push_lines(&mut text, &pool, c)?;
+    out.extend_from_slice(text.as_slice())?;
+    Ok(pool.len() as u64)
 }
 
 /// How many different vectors the nodes have: the number of `v` lines of the text of version 2.
 pub fn count_vectors(alloc: Global, c: &Certificate) -> Result<u64, NoMemory>
     ensures { IfOk result (λ count. HasVectors c.now.families count) }
 {
-    let pool = pool(alloc, c.families.as_slice())?;
+    let pool = Pool::new(alloc, c.families.as_slice())?;
     Ok(pool.len() as u64)
 }

@@ -34,14 +34,14 @@ module _ (u : Unfolded) (machine : Machine) (table : Classes) (are : AreClasses 
   pub record HasClasses (node : ℕ) (block : Block) : Type 0 where
     pub kinds : List Class
     pub stands : slice_get table.slots node ≡ Some kinds
-    pub are_of : AreNodeClasses machine u are.flow are.states node block.slots kinds
+    pub are_of : AreNodeClasses machine u are.flow node block.slots kinds
 
   pub has_classes : (node : ℕ) (block : Block) → IsBlockOf u node block → HasClasses node block
   has_classes node block is = elim ((slice_get_cases table.slots node).1) [
     | inl found ↦ record {
       kinds = found.0;
       stands = found.2;
-      are_of = subst (λ (s : List Slot). AreNodeClasses machine u are.flow are.states node s found.0) (slots_are u are.flow are.of node block is) (are.each node is.node found.0 is.stands found.2);
+      are_of = subst (λ (s : List Slot). AreNodeClasses machine u are.flow node s found.0) (slots_are u are.flow are.of node block is) (are.each node is.node found.0 is.stands found.2);
     }
     | inr over ↦ absurd (let past : length table.slots ≤ node = over.0 in omega (arith, slice_get_within u.nodes node is.node is.stands, are.long))
   ]
@@ -50,7 +50,7 @@ module _ (u : Unfolded) (machine : Machine) (table : Classes) (are : AreClasses 
   pub record HasEvent (node : ℕ) (block : Block) (number : ℕ) (class : Class) : Type 0 where
     pub event : Slot
     pub stands : slice_get block.slots number ≡ Some event
-    pub told : IsEventClass machine u are.flow are.states node block.slots number event class
+    pub told : IsEventClass machine u are.flow node block.slots number event class
 
   pub has_event : (node : ℕ) (block : Block) (has : HasClasses node block) (number : ℕ) (class : Class) → slice_get has.kinds number ≡ Some class → HasEvent node block number class
   has_event node block has number class e = elim ((slice_get_cases block.slots number).1) [
@@ -69,14 +69,14 @@ module _ (held : HeldLinesAreThere) (barred : BarredLinesAreAbsent) (u : Unfolde
         ∙ cache_append machine.shape begin come.accesses (lines_fetched (take number block.slots))
         ∙ ap (λ (l : Lines). cache_along machine.shape l (lines_fetched (take number block.slots))) (sym come.is)
 
-    fetch_allowed : (line : ℕ) (class : Class) → IsClass machine.shape u are.flow are.states node (length (lines_fetched (take number block.slots))) line class
+    fetch_allowed : (line : ℕ) (class : Class) → IsClass machine.shape u are.flow node (length (lines_fetched (take number block.slots))) line class
         → Allows class (not (holds_line machine.shape (cache_along machine.shape cache (lines_fetched (take number block.slots))) line))
     fetch_allowed line class (hits h) =
         ap (λ (l : Lines). not (holds_line machine.shape l line)) (sym same_cache)
-        ∙ ap not (held machine.shape are.flow are.states.must node (length (lines_fetched (take number block.slots))) line come.accesses begin shape c are.least.must.solution come.comes h)
+        ∙ ap not (held machine.shape are.flow h.states node (length (lines_fetched (take number block.slots))) line come.accesses begin shape c h.solution come.comes h.holds)
     fetch_allowed line class (misses h m) =
         ap (λ (l : Lines). not (holds_line machine.shape l line)) (sym same_cache)
-        ∙ ap not (barred machine.shape are.flow are.states.may node (length (lines_fetched (take number block.slots))) line come.accesses begin shape c are.least.may.solution come.comes m)
+        ∙ ap not (barred machine.shape are.flow m.states node (length (lines_fetched (take number block.slots))) line come.accesses begin shape c m.solution come.comes m.bars)
     fetch_allowed line class (first scope h m kept outer) = tt
     fetch_allowed line class (opens h m never) = tt
 
@@ -85,7 +85,7 @@ module _ (held : HeldLinesAreThere) (barred : BarredLinesAreAbsent) (u : Unfolde
     data_allowed false false h = refl
     data_allowed true false h = sym (h refl)
 
-    event_allowed : (slow : ℕ → Bool) (at : ℕ) (kind : SlotKind) (class : Class) → IsKindClass machine u are.flow are.states node block.slots number kind class
+    event_allowed : (slow : ℕ → Bool) (at : ℕ) (kind : SlotKind) (class : Class) → IsKindClass machine u are.flow node block.slots number kind class
         → (kind ≡ Data → slow at ≡ true → list_any (λ region. region.slow) machine.regions ≡ true)
         → Allows class (decided machine.shape (cache_along machine.shape cache (lines_fetched (take number block.slots))) slow at kind)
     event_allowed slow at (Fetch line) class told regions = fetch_allowed line class told

@@ -93,24 +93,24 @@ module _ (kept_law : KeptInStays) (u : Unfolded) (machine : Machine) (table : Cl
     pub now : cache ≡ cache_along machine.shape begin accesses
     pub counted : (line : ℕ) → Counted accesses line (misses_in table line scope visits)
 
-  kept_of : (node place line : ℕ) (class : Class) (scope : Scope) → class ≡ FirstMiss scope → IsClass machine.shape u are.flow are.states node place line class
-      → IsKeptIn machine.shape u are.flow are.states node place line scope
+  kept_of : (node place line : ℕ) (class : Class) (scope : Scope) → class ≡ FirstMiss scope → IsClass machine.shape u are.flow node place line class
+      → IsKeptIn machine.shape u are.flow node place line scope
   unfolding scope_of
   kept_of node place line class scope e (hits h) = absurd cc
   kept_of node place line class scope e (misses h m) = absurd cc
-  kept_of node place line class scope e (first other h m kept outer) = subst (λ s. IsKeptIn machine.shape u are.flow are.states node place line s) (ap scope_of e) kept
+  kept_of node place line class scope e (first other h m kept outer) = subst (λ s. IsKeptIn machine.shape u are.flow node place line s) (ap scope_of e) kept
   kept_of node place line class scope e (opens h m never) = absurd cc
 
   -- an event of the group at a visit, with what its class tells
   pub kept_at : (begun : Lines) (scope : Scope) (node : ℕ) (cache : Lines) (visit : Visit) (is : IsVisited u machine begun cache node visit) (line number : ℕ) (event : Slot) (class : Class)
       → (has : HasClasses u machine table are node visit.block)
       → slice_get visit.block.slots number ≡ Some event → slice_get has.kinds number ≡ Some class → is_of_group event.kind class line scope ≡ true
-      → IsKeptIn machine.shape u are.flow are.states node (length (lines_fetched (take number visit.block.slots))) line scope
+      → IsKeptIn machine.shape u are.flow node (length (lines_fetched (take number visit.block.slots))) line scope
   kept_at begun scope node cache visit is line number event class has stands kind e =
       let group = of_group event.kind class line scope e in
       let told = has.are_of.each number event class stands kind in
-      let fetch : IsKindClass machine u are.flow are.states node visit.block.slots number (Fetch line) class =
-      subst (λ (k : SlotKind). IsKindClass machine u are.flow are.states node visit.block.slots number k class) group.0 told in
+      let fetch : IsKindClass machine u are.flow node visit.block.slots number (Fetch line) class =
+      subst (λ (k : SlotKind). IsKindClass machine u are.flow node visit.block.slots number k class) group.0 told in
       kept_of node (length (lines_fetched (take number visit.block.slots))) line class scope group.1 fetch
 
   module _ (begun : Lines) (scope : Scope) (visits : List Visit) (node : ℕ) (cache : Lines) (stay : InStay scope visits node cache)
@@ -126,7 +126,7 @@ module _ (kept_law : KeptInStays) (u : Unfolded) (machine : Machine) (table : Cl
         let kept = kept_at begun scope node cache visit is line number event class has stands kind grouped in
         let accesses : take place (accesses_of are.flow node) ≡ lines_fetched front = accesses_before u are.flow are.of node visit.block number is.is ∙ ap lines_fetched before in
         let held : holds_line machine.shape (cache_along machine.shape stay.begin (stay.accesses ++ take place (accesses_of are.flow node))) line ≡ true =
-        kept_law machine.shape are.flow (part_of u scope) (are.states.younger scope) node place line stay.accesses stay.begin shape stay.is_cache flows (are.least.younger scope).solution stay.stays kept.kept
+        kept_law machine.shape are.flow (part_of u scope) kept.kept.states node place line stay.accesses stay.begin shape stay.is_cache flows kept.kept.solution stay.stays kept.kept.kept
         (subst (λ xs. Contains (stay.accesses ++ xs) line) (sym accesses) there) in
         let same : cache_along machine.shape stay.begin (stay.accesses ++ take place (accesses_of are.flow node)) ≡ cache_along machine.shape cache (lines_fetched front) =
         ap (λ xs. cache_along machine.shape stay.begin (stay.accesses ++ xs)) accesses

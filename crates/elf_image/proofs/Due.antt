@@ -7,10 +7,11 @@ use Rattle.elf_image.specs.declared.error.ElfError.{ElfError}
 use Rattle.elf_image.specs.declared.error.ElfError.TheVariants.{NoMemory, Short, NotElf, Class, Order, Kind, Machine, Header, Overlap, ThumbEntry, Symbols, TooLarge}
 use Rattle.elf_image.specs.declared.fields.ProgramHeader.{ProgramHeader}
 use Rattle.elf_image.specs.declared.fields.SectionHeader.{SectionHeader}
-use Rattle.elf_image.specs.Causes.{Cause, EndsWithin, HasSections, IsFaultyHeader, IsFaultySection, IsFirstCause, IsFirstWithout, IsLeastOverlap, IsSoundHeader, IsSoundHeaderAt, IsSoundLoad, IsSoundTable, Passes, SectionInFile, SectionIsSound, magic, rank, string_table}
-use Rattle.elf_image.specs.Fields.{file_header, program_header, program_header_at, program_header_place, section_header, section_header_place, symbol_entry}
-use Rattle.elf_image.specs.Laws.{PassesOrRefused}
-use Rattle.elf_image.specs.Overlaps.{IsLeastMeeting, Meet}
+use Rattle.elf_image.specs.Causes.{Cause, EndsWithin, HasSections, IsFaultyHeader, IsFaultySection, IsFirstCause, IsFirstWithout, IsSoundHeader, IsSoundHeaderAt, IsSoundLoad, IsSoundTable, Passes, SectionInFile, SectionIsSound, magic, rank, string_table}
+use Rattle.elf_image.specs.Fields.{file_header, program_header, program_header_at, program_header_place, program_headers, section_header, section_header_place, symbol_entry}
+use Rattle.elf_image.specs.Laws.{ImagesAreLoaded, PassesOrRefused}
+use Rattle.elf_image.specs.Overlaps.{IsLeastMeeting, Meet, NoneMeet}
+use Rattle.elf_image.proofs.Loaded.{loaded, sound_loads}
 
 abbrev Decided : Type 0 → Type 0
 Decided P = P ⊎ (P → ⊥)
@@ -123,9 +124,9 @@ module _ (header : ℕ → ProgramHeader) (n : ℕ) where
   first_later : (a b : ℕ) → b < n → Later a b → MeetsLater a
   first_later a b within h = elim (first_with (Later a) (later a) n) [ inl found ↦ found | inr none ↦ absurd (none b within h) ]
 
-  least_pair : ((a : ℕ) × (b : ℕ) × IsLeastMeeting header n a b) ⊎ ((a b : ℕ) → IsLeastMeeting header n a b → ⊥)
+  least_pair : ((a : ℕ) × (b : ℕ) × IsLeastMeeting header n a b) ⊎ NoneMeet header n
   least_pair = elim (first_with MeetsLater meets_later n) [
-    | inr none ↦ inr (λ a b m. let o = m.ordered in let w = m.among in none a (omega arith) (first_later a b w (o, m.meet)))
+    | inr none ↦ inr (record { apart = λ a b o w m. none a (omega arith) (first_later a b w (o, m)) })
     | inl found ↦
         let a = found.0 in
         let next = found.2 in inl (
@@ -279,8 +280,8 @@ at_header b = elim (faulty_header b) [ inl found ↦ inl (Header found.0, refl, 
 at_overlap : (b : List ℕ) → AtRank b 8
 at_overlap b = elim (least_pair (program_header b) (file_header b).phnum) [ inl found ↦ inl (Overlap found.0 found.1, refl, found.2) | inr h ↦ inr (none h) ]
   where
-    none : ((x y : ℕ) → IsLeastOverlap b x y → ⊥) → (e : ElfError) → rank e ≡ 8 → Cause b e → ⊥
-    none h (Overlap x y) r c = h x y c
+    none : NoneMeet (program_header b) (file_header b).phnum → (e : ElfError) → rank e ≡ 8 → Cause b e → ⊥
+    none h (Overlap x y) r c = h.apart x y c.ordered c.among c.meet
     none h e r c = omega arith
 
 at_entry : (b : List ℕ) → AtRank b 9
@@ -327,3 +328,29 @@ pub due : PassesOrRefused
 due b =
     next b 10 11 refl (next b 9 10 refl (next b 8 9 refl (next b 7 8 refl (next b 6 7 refl (next b 5 6 refl (next b 4 5 refl (next b 3 4 refl (next b 2 3 refl (next b 1 2 refl (next b 0 1 refl (none_before b)
     (at_short b)) (at_elf b)) (at_class b)) (at_order b)) (at_kind b)) (at_machine b)) (at_header b)) (at_overlap b)) (at_entry b)) (at_symbols b)) (at_size b)
+
+-- ---- bytes that pass
+
+-- their program headers are sound
+sound_headers : (b : List ℕ) → Passes 11 b → (i : ℕ) → i < (file_header b).phnum → IsSoundHeader b i
+sound_headers b p = elim (cases_eq (file_header b).phentsize 32) [
+  | inl right ↦ elim (first_without (IsSoundHeader b) (λ k. sound_header b (program_header_place b k)) (file_header b).phnum) [
+    | inl found ↦ absurd (p.none (Header found.0) (omega arith) (inr (right, found.1)))
+    | inr all ↦ all
+  ]
+  | inr wrong ↦ elim (cases_eq (file_header b).phnum 0) [
+    | inl empty ↦ λ i h. absurd (omega (arith, empty, h))
+    | inr some ↦ absurd (p.none (Header 0) (omega arith) (inl (some, wrong, refl)))
+  ]
+]
+
+-- and no two of these meet
+none_meet : (b : List ℕ) → Passes 11 b → NoneMeet (program_header b) (file_header b).phnum
+none_meet b p = elim (least_pair (program_header b) (file_header b).phnum) [
+  | inl found ↦ absurd (p.none (Overlap found.0 found.1) (omega arith) found.2)
+  | inr none ↦ none
+]
+
+-- so what they load lies apart within the address space
+pub images_are_loaded : ImagesAreLoaded
+images_are_loaded b p = loaded b (sound_loads b (program_headers b) refl (sound_headers b p)) (none_meet b p)

@@ -14,6 +14,6 @@ mod strings;
 mod table;
 
 pub use error::ElfError;
-pub use laws::one_answer_is_due;
+pub use laws::{images_are_loaded, one_answer_is_due};
 pub use read::read_image;
 pub use wx_base::{Image, Segment, Segments, Symbols};

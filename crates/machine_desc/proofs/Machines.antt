@@ -1,11 +1,12 @@
 -- The machine of a document in which no key has a fault lies in its ranges.
 use Rattle.std.proofs.Common.{◌≡◌, true, false, [], codes, is_some, refl, subst, sym, arith}
-use Rattle.toml.specs.Data.{Data, as_table}
+use Rattle.toml.specs.Data.{Data, as_table, table}
 use Rattle.wx_base.specs.declared.machine.Machine.{Machine}
 use Rattle.wx_base.specs.Machine.{Between, IsMachine}
 use Rattle.machine_desc.specs.Document.{elements, faults}
 use Rattle.machine_desc.specs.Meeting.{NoneMeet}
 use Rattle.machine_desc.specs.Keys.{rows}
+use Rattle.machine_desc.specs.Laws.{DescriptionsAreInRange}
 use Rattle.machine_desc.specs.Values.{machine_of, number_at, regions_of}
 use Rattle.machine_desc.proofs.Ranges.{top_in, inner_in, inner_power}
 use Rattle.machine_desc.proofs.Elements.{all_apart, few, ordered_from, regions_right}
@@ -74,3 +75,7 @@ in_range d t h none = record {
 -- the same for a machine that is that one
 pub machine_in_range : (d : Data) (machine : Machine) → is_some (as_table d) ≡ true → faults d ≡ [] → NoneMeet (regions_of (elements d)) → machine ≡ machine_of d → IsMachine machine
 machine_in_range d machine t h none told = subst IsMachine (sym told) (in_range d t h none)
+
+-- so the machine that bytes describe does
+pub descriptions_in_range : DescriptionsAreInRange
+descriptions_in_range bytes machine d = machine_in_range (table d.members) machine refl d.described.faultless d.described.apart d.described.told

@@ -1,6 +1,7 @@
 -- Laws of the definitions.
 use Rattle.std.specs.Prelude.{◌≡◌, ℕ, ◌⊎◌, List}
 use Rattle.wx_base.specs.declared.machine.Machine.{Machine}
+use Rattle.wx_base.specs.Machine.{IsMachine}
 use Rattle.machine_desc.specs.declared.error.MachineError.{MachineError}
 use Rattle.machine_desc.specs.Causes.{IsDescription, IsFirstCause}
 
@@ -19,3 +20,7 @@ OneCause = (bytes : List ℕ) (e f : MachineError) → IsFirstCause bytes e → 
 -- bytes that describe a machine have none
 abbrev pub NotBoth : Type 0
 NotBoth = (bytes : List ℕ) (machine : Machine) (e : MachineError) → IsDescription bytes machine → IsFirstCause bytes e → ⊥
+
+-- the numbers of a machine that bytes describe lie in their ranges
+abbrev pub DescriptionsAreInRange : Type 0
+DescriptionsAreInRange = (bytes : List ℕ) (machine : Machine) → IsDescription bytes machine → IsMachine machine

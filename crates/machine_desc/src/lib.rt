@@ -15,6 +15,6 @@ mod regions;
 mod unknown;
 
 pub use error::MachineError;
-pub use laws::one_answer_is_due;
+pub use laws::{descriptions_are_in_range, one_answer_is_due};
 pub use read::read_machine;
 pub use wx_base::{Machine, Region, Regions, Shape, Unit};

@@ -46,12 +46,16 @@ fn image_of(alloc: Global, words: &str) -> Result<Vec<u8>> {
     Ok(bytes)
 }
 
-/// Words of eight hexadecimal digits as little-endian bytes.
+/// Words of eight hexadecimal digits as little-endian bytes. A word with `*` and a number behind it stands so many times.
 fn words_of(alloc: Global, words: &str) -> Result<Vec<u8>> {
     let mut bytes = Vec::new(alloc);
-    for digits in words.split(',').filter(|digits| !digits.is_empty()) {
+    for part in words.split(',').filter(|part| !part.is_empty()) {
+        let (digits, count) = part.split_once('*').unwrap_or((part, "1"));
         let word = read_word(digits.as_bytes()).context("eight digits are wanted")?;
-        bytes.extend_from_slice(&word.to_le_bytes())?;
+        let count = read_decimal(count.as_bytes()).context("a number is wanted")?;
+        for _ in 0..count {
+            bytes.extend_from_slice(&word.to_le_bytes())?;
+        }
     }
     Ok(bytes)
 }

@@ -10,9 +10,9 @@ use Rattle.wcet_front.specs.Reply.{IsNoFault}
 use Rattle.wcet_front.specs.StoreUse.{StoreUse, IsUntouched}
 use Rattle.wcet_front.specs.Files.{reads_in, reads_of, IsCutShort, ReadsAndReplies}
 use Rattle.wcet_front.specs.Writing.{Leaves, OnlyReplies, RepliesOf, Works, WorksInPart, in_reading}
-use Rattle.wcet_front.specs.WritingLaws.{works_only, only_due}
+use Rattle.wcet_front.specs.WritingLaws.{works_only}
 use Rattle.wcet_front.specs.Stages.{Answers, OnStarved}
-use Rattle.wcet_cli.specs.Commands.{Form, IsForm, FitsForm, files_of, written_by, Does, AreNamed, by_form, AreWrittenBy, WriteNothing}
+use Rattle.wcet_cli.specs.Commands.{Form, IsForm, files_of, written_by, Does, AreNamed, AreWrittenBy, WriteNothing}
 use Rattle.wcet_cli.specs.Call.{HasCause, OfForm, IsStarved, OfSome, IsDue}
 use Rattle.wcet_cli.proofs.OneForm.{called_of, named_by, written_is}
 
@@ -26,6 +26,12 @@ starved_for : (P Q : Type 0) (r : Result Reply Stop) → (P → Q) → OnStarved
 starved_for P Q (Ok said) then h = tt
 starved_for P Q (Err (stop.Replied said)) then h = tt
 starved_for P Q (Err stop.NoMemory) then h = then h
+
+-- what holds anyway holds where memory is wanting
+pub starves_always : (P : Type 0) (r : Result Reply Stop) → P → OnStarved r P
+starves_always P (Ok said) h = tt
+starves_always P (Err (stop.Replied said)) h = tt
+starves_always P (Err stop.NoMemory) h = h
 
 -- a command that writes nothing
 module _ (used : StoreUse) (untouched : IsUntouched used) (names : List (List ℕ)) (replies : List (List ℕ) → Reply → Type 0) (r : Result Reply Stop) where

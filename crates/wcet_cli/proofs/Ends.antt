@@ -10,7 +10,6 @@ use Rattle.run_machine.specs.declared.report.End.{End}
 use Rattle.run_machine.specs.declared.report.End.TheVariants as end
 use Rattle.wcet_front.specs.declared.inputs.InputTexts.{InputTexts}
 use Rattle.wcet_front.specs.declared.reply.Reply.{Reply}
-use Rattle.wcet_front.specs.declared.reply.Reply.TheVariants as reply
 use Rattle.wcet_front.specs.Reply.{run_status, status_of, text_of, IsSaid, InFull, Wanting}
 use Rattle.wcet_front.specs.StoreUse.{StoreUse}
 use Rattle.wcet_front.specs.Files.{reads_in, AreContents, AreRead, IsUnread, failed, missing, long, IsFirstUnread}
@@ -19,11 +18,12 @@ use Rattle.wcet_front.specs.WritingLaws.{part_of, writes_nothing}
 use Rattle.wcet_front.specs.Handing.{Took, HandsOver, Whole, Unwritten, Starved}
 use Rattle.wcet_front.specs.Inputs.{IsInputsRefusal}
 use Rattle.wcet_front.specs.Stages.{refused, passed}
-use Rattle.wcet_cli.specs.Words.{IsFlat, RunWords, IsRun, MigrateWords, IsMigrate}
+use Rattle.wcet_cli.specs.Words.{IsFlat, RunWords, IsRun, MigrateWords, IsMigrate, CheckWords, IsCheck}
 use Rattle.wcet_cli.specs.FlatCommand.{FlatReply, bound, leaves_code, unsupported, AnswersBound}
 use Rattle.wcet_cli.specs.RunCommand.{run_files, report_in, RunReply, ReportsRun}
 use Rattle.wcet_cli.specs.MigrateCommand.{MigrateDeed, migrates, refuses, Migrates}
-use Rattle.wcet_cli.specs.Commands.{Form, Flat, Run, Migrate, IsForm, FitsForm, files_of, Does, by_form}
+use Rattle.wcet_cli.specs.CheckCommand.{check_files, CheckReply, accepts, rejects, AcceptsBound}
+use Rattle.wcet_cli.specs.Commands.{Form, Flat, Run, Migrate, Check, IsForm, FitsForm, files_of, Does, by_form}
 use Rattle.wcet_cli.specs.Call.{HasCause, NoForm, OfForm, IsStarved, OfNone, OfSome, IsAnswer, Says, Starves, Refuses, ReadsNothing, IsTooLarge, WritesNot, HoldsInPart}
 use Rattle.wcet_cli.proofs.Running.{every_run_ends_within}
 
@@ -41,6 +41,7 @@ answer_of used words said status text cause (Wanting s t) = Starves (asked_front
 writes_answered : (form : Form) (contents : List (List ℕ)) (files : List HeldFile) (said : Reply) → Does form contents files said → (files ≡ []) ⊎ (status_of said ≡ 0)
 writes_answered (Flat code) contents files said h = inl h.none
 writes_answered (Run w) contents files said h = inl h.none
+writes_answered (Check w) contents files said h = inl h.none
 writes_answered (Migrate w) [] files said h = absurd h
 writes_answered (Migrate w) (bytes ∷ []) files said (migrates c text vectors is f e) = inr (ap status_of e)
 writes_answered (Migrate w) (bytes ∷ []) files said (refuses h f) = inl f
@@ -76,7 +77,9 @@ module _ (law : WorseCompletesNoEarlier) (ok : IsMachine m1) (used : StoreUse) (
 
   -- what each status says of a reply with its cause
   abbrev MeansAt : ℕ → Type 0
-  MeansAt zero = AnswersBound used.before.holds words taken taken' ⊎ ReportsRun used.before.holds words taken taken' 0 ⊎ Migrates used.before.holds used.after.holds words taken taken'
+  MeansAt zero =
+      AnswersBound used.before.holds words taken taken' ⊎ ReportsRun used.before.holds words taken taken' 0
+      ⊎ Migrates used.before.holds used.after.holds words taken taken' ⊎ AcceptsBound used.before.holds words taken taken'
   MeansAt (suc zero) = ¬ FitsForm words
   MeansAt (suc (suc zero)) = ReadsNothing (reads_in used) words
   MeansAt (suc (suc (suc zero))) = WritesNot used words taken taken'
@@ -84,9 +87,9 @@ module _ (law : WorseCompletesNoEarlier) (ok : IsMachine m1) (used : StoreUse) (
   MeansAt (suc (suc (suc (suc (suc zero))))) = Refuses used.before.holds words 5
   MeansAt (suc (suc (suc (suc (suc (suc zero)))))) = Refuses used.before.holds words 6
   MeansAt (suc (suc (suc (suc (suc (suc (suc zero))))))) = Refuses used.before.holds words 7
-  MeansAt (suc (suc (suc (suc (suc (suc (suc (suc zero)))))))) = ⊤
+  MeansAt (suc (suc (suc (suc (suc (suc (suc (suc zero)))))))) = Refuses used.before.holds words 8
   MeansAt (suc (suc (suc (suc (suc (suc (suc (suc (suc zero))))))))) = ⊤
-  MeansAt (suc (suc (suc (suc (suc (suc (suc (suc (suc (suc zero)))))))))) = IsTooLarge (reads_in used) words
+  MeansAt (suc (suc (suc (suc (suc (suc (suc (suc (suc (suc zero)))))))))) = IsTooLarge (reads_in used) words ⊎ Refuses used.before.holds words 10
   MeansAt (suc (suc (suc (suc (suc (suc (suc (suc (suc (suc (suc zero))))))))))) = ReportsRun used.before.holds words taken taken' 11
   MeansAt (suc (suc (suc (suc (suc (suc (suc (suc (suc (suc (suc (suc zero)))))))))))) = Refuses used.before.holds words 12
   MeansAt (suc (suc (suc (suc (suc (suc (suc (suc (suc (suc (suc (suc (suc more))))))))))))) = ⊤
@@ -101,7 +104,7 @@ module _ (law : WorseCompletesNoEarlier) (ok : IsMachine m1) (used : StoreUse) (
       by_cause : IsUnread (reads_in used) f.name said → MeansAt ends
       by_cause (failed rose g) = means 2 (e ∙ ap status_of g) (record { names = files_of form; name = f.name; named = by_form form is refl; come = f.come; fault = inl rose })
       by_cause (missing none g) = means 2 (e ∙ ap status_of g) (record { names = files_of form; name = f.name; named = by_form form is refl; come = f.come; fault = inr none })
-      by_cause (long bytes cut g) = means 10 (e ∙ ap status_of g) (record { names = files_of form; name = f.name; bytes = bytes; named = by_form form is refl; come = f.come; cut = cut })
+      by_cause (long bytes cut g) = means 10 (e ∙ ap status_of g) (inl (record { names = files_of form; name = f.name; bytes = bytes; named = by_form form is refl; come = f.come; cut = cut }))
 
   -- a file is not written
   unwritten_means : (form : Form) (contents : List (List ℕ)) (files : List HeldFile) (meant said : Reply) → IsForm words form → AreRead (reads_in used) (files_of form) contents → Does form contents files meant → IsFirstUnwritten used files said → ends ≡ status_of said → Took taken taken' (text_of said) → MeansAt ends
@@ -181,7 +184,7 @@ module _ (law : WorseCompletesNoEarlier) (ok : IsMachine m1) (used : StoreUse) (
 
   migrate_means : (w : MigrateWords) (bytes : List ℕ) (files : List HeldFile) (said : Reply) → IsMigrate words w → AreContents holds (w.source ∷ []) (bytes ∷ []) → MigrateDeed w.target bytes files said → AreWritten used files → ends ≡ status_of said → Took taken taken' (text_of said) → MeansAt ends
   migrate_means w bytes files said is are (migrates c text vectors migration f g) wrote e took =
-      means 0 (e ∙ ap status_of g) (inr (inr (record {
+      means 0 (e ∙ ap status_of g) (inr (inr (inl (record {
         w = w;
         bytes = bytes;
         c = c;
@@ -192,9 +195,59 @@ module _ (law : WorseCompletesNoEarlier) (ok : IsMachine m1) (used : StoreUse) (
         is = migration;
         held = wrote.holds ∙ ap (λ (x : List HeldFile). writes_in x holds) f;
         took = subst (λ r. Took taken taken' (text_of r)) g took;
-      })))
+      }))))
   migrate_means w bytes files said is are (refuses h f) wrote e took =
       means 7 (e ∙ ap status_of h.3) (refusal (Migrate w) (bytes ∷ []) said is are (record { files = files; deed = refuses h f }) 7 e (sym (ap status_of h.3)))
+
+  -- the verdict on a certificate, or a stage that refuses what it needs
+  module _ (w : CheckWords) (texts : InputTexts) (certificate : List ℕ) (said : Reply) (is : IsCheck words w)
+      (are : AreContents holds (check_files w) (texts.image ∷ texts.facts ∷ texts.machine ∷ certificate ∷ []))
+      (e : ends ≡ status_of said) (took : Took taken taken' (text_of said)) where
+    refused_check : (n : ℕ) → CheckReply w texts certificate said → n ≡ status_of said → Refuses holds words n
+    refused_check n cause r =
+        refusal (Check w) (texts.image ∷ texts.facts ∷ texts.machine ∷ certificate ∷ []) said is are
+        (record { files = []; deed = record { none = refl; says = cause } }) n e r
+
+    told_means : CheckReply w texts certificate said → IsInputsRefusal texts said → MeansAt ends
+    told_means cause (refused h) = means 4 (e ∙ ap status_of h.2) (refused_check 4 cause (sym (ap status_of h.2)))
+    told_means cause (passed image is_image (refused h)) = means 5 (e ∙ ap status_of h.2) (refused_check 5 cause (sym (ap status_of h.2)))
+    told_means cause (passed image is_image (passed facts are_facts h)) = means 6 (e ∙ ap status_of h.2) (refused_check 6 cause (sym (ap status_of h.2)))
+
+    check_means : CheckReply w texts certificate said → MeansAt ends
+    check_means (refused h) = told_means (refused h) h
+    check_means (passed inputs told (refused h)) =
+        means 7 (e ∙ ap status_of h.3) (refused_check 7 (passed inputs told (refused h)) (sym (ap status_of h.3)))
+    check_means (passed inputs told (passed c read (refused h))) =
+        means 4 (e ∙ ap status_of h.3) (refused_check 4 (passed inputs told (passed c read (refused h))) (sym (ap status_of h.3)))
+    check_means (passed inputs told (passed c read (passed entry at (refused h)))) =
+        means 4 (e ∙ ap status_of h.2) (refused_check 4 (passed inputs told (passed c read (passed entry at (refused h)))) (sym (ap status_of h.2)))
+    check_means (passed inputs told (passed c read (passed entry at (passed program sound (refused h))))) =
+        means 10 (e ∙ ap status_of h.1)
+        (inr (refused_check 10 (passed inputs told (passed c read (passed entry at (passed program sound (refused h))))) (sym (ap status_of h.1))))
+    check_means (passed inputs told (passed c read (passed entry at (passed program sound (passed u small (rejects rule node vector broken g)))))) =
+        means 8 (e ∙ ap status_of g)
+        (refused_check 8 (passed inputs told (passed c read (passed entry at (passed program sound (passed u small (rejects rule node vector broken g))))))
+        (sym (ap status_of g)))
+    check_means (passed inputs told (passed c read (passed entry at (passed program sound (passed u small (accepts accepted g)))))) =
+        means 0 (e ∙ ap status_of g) (inr (inr (inr (record {
+          w = w;
+          texts = texts;
+          certificate = certificate;
+          inputs = inputs;
+          c = c;
+          entry = entry;
+          program = program;
+          u = u;
+          form = is;
+          contents = are;
+          told = told;
+          read = read;
+          entered = at;
+          sound = sound;
+          unfolded = small.is;
+          accepted = accepted;
+          took = subst (λ r. Took taken taken' (text_of r)) g took;
+        }))))
 
   form_means : (form : Form) (contents : List (List ℕ)) (files : List HeldFile) (said : Reply) → IsForm words form → AreContents holds (files_of form) contents → Does form contents files said → AreWritten used files → ends ≡ status_of said → Took taken taken' (text_of said) → MeansAt ends
   form_means (Flat code) [] files said is are h wrote e took = absurd h.says
@@ -207,6 +260,13 @@ module _ (law : WorseCompletesNoEarlier) (ok : IsMachine m1) (used : StoreUse) (
   form_means (Run w) (image ∷ facts ∷ machine ∷ start ∷ []) files said is are h wrote e took =
       run_means w (record { image = image; facts = facts; machine = machine }) start said is are e took h.says
   form_means (Run w) (image ∷ facts ∷ machine ∷ start ∷ other ∷ contents) files said is are h wrote e took = absurd h.says
+  form_means (Check w) [] files said is are h wrote e took = absurd h.says
+  form_means (Check w) (image ∷ []) files said is are h wrote e took = absurd h.says
+  form_means (Check w) (image ∷ facts ∷ []) files said is are h wrote e took = absurd h.says
+  form_means (Check w) (image ∷ facts ∷ machine ∷ []) files said is are h wrote e took = absurd h.says
+  form_means (Check w) (image ∷ facts ∷ machine ∷ certificate ∷ []) files said is are h wrote e took =
+      check_means w (record { image = image; facts = facts; machine = machine }) certificate said is are e took h.says
+  form_means (Check w) (image ∷ facts ∷ machine ∷ certificate ∷ other ∷ contents) files said is are h wrote e took = absurd h.says
   form_means (Migrate w) [] files said is are h wrote e took = absurd h
   form_means (Migrate w) (bytes ∷ []) files said is are h wrote e took = migrate_means w bytes files said is are h wrote e took
   form_means (Migrate w) (bytes ∷ other ∷ contents) files said is are h wrote e took = absurd h
@@ -236,7 +296,8 @@ module _ (law : WorseCompletesNoEarlier) (ok : IsMachine m1) (used : StoreUse) (
     meaning n k three nine =
         subst MeansAt k (meaning_in faults faults' ended.0 ended.1 ended.2 ended.3 (λ h rose. other 3 n h k three) (λ h. other 9 n h k nine))
 
-    pub at_zero : ends ≡ 0 → AnswersBound used.before.holds words taken taken' ⊎ ReportsRun used.before.holds words taken taken' 0 ⊎ Migrates used.before.holds used.after.holds words taken taken'
+    pub at_zero : ends ≡ 0 → AnswersBound used.before.holds words taken taken' ⊎ ReportsRun used.before.holds words taken taken' 0
+        ⊎ Migrates used.before.holds used.after.holds words taken taken' ⊎ AcceptsBound used.before.holds words taken taken'
     at_zero k = meaning 0 k (λ g. omega (arith, g)) (λ g. omega (arith, g))
 
     pub at_one : ends ≡ 1 → ¬ FitsForm words
@@ -257,7 +318,10 @@ module _ (law : WorseCompletesNoEarlier) (ok : IsMachine m1) (used : StoreUse) (
     pub at_seven : ends ≡ 7 → Refuses used.before.holds words 7
     at_seven k = meaning 7 k (λ g. omega (arith, g)) (λ g. omega (arith, g))
 
-    pub at_ten : ends ≡ 10 → IsTooLarge (reads_in used) words
+    pub at_eight : ends ≡ 8 → Refuses used.before.holds words 8
+    at_eight k = meaning 8 k (λ g. omega (arith, g)) (λ g. omega (arith, g))
+
+    pub at_ten : ends ≡ 10 → IsTooLarge (reads_in used) words ⊎ Refuses used.before.holds words 10
     at_ten k = meaning 10 k (λ g. omega (arith, g)) (λ g. omega (arith, g))
 
     pub at_eleven : ends ≡ 11 → ReportsRun used.before.holds words taken taken' 11

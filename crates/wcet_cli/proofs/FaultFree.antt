@@ -2,7 +2,6 @@
 use Rattle.std.proofs.Common.{◌≡◌, ◌⊎◌, ℕ, inl, inr, List, [], ◌∷◌, ◌++◌, sym, ◌∙◌, subst}
 use Rattle.wcet_front.specs.declared.inputs.InputTexts.{InputTexts}
 use Rattle.wcet_front.specs.declared.reply.Reply.{Reply}
-use Rattle.wcet_front.specs.declared.reply.Reply.TheVariants as reply
 use Rattle.wcet_front.specs.Reply.{IsNoFault}
 use Rattle.wcet_front.specs.Inputs.{IsInputsRefusal}
 use Rattle.wcet_front.specs.Stages.{refused, passed}
@@ -11,11 +10,12 @@ use Rattle.wx_host.specs.MemStore.{HeldFile}
 use Rattle.wcet_front.specs.StoreUse.{StoreUse}
 use Rattle.wcet_front.specs.Files.{Reads, reads_in, ReadsFail, IsUnread, failed, missing, long}
 use Rattle.wcet_front.specs.Writing.{file_of, IsUnwritten, unread, unwritten, worked}
-use Rattle.wcet_cli.specs.Words.{RunWords}
-use Rattle.wcet_cli.specs.FlatCommand.{FlatReply, FlatReplies, bound, leaves_code, unsupported}
-use Rattle.wcet_cli.specs.RunCommand.{RunReply, RunReplies}
+use Rattle.wcet_cli.specs.Words.{RunWords, CheckWords}
+use Rattle.wcet_cli.specs.FlatCommand.{FlatReply, bound, leaves_code, unsupported}
+use Rattle.wcet_cli.specs.RunCommand.{RunReply}
 use Rattle.wcet_cli.specs.MigrateCommand.{MigrateDeed, migrates, refuses}
-use Rattle.wcet_cli.specs.Commands.{Form, Flat, Run, Migrate, IsForm, written_by, Does, WriteNothing}
+use Rattle.wcet_cli.specs.CheckCommand.{CheckReply, accepts, rejects}
+use Rattle.wcet_cli.specs.Commands.{Form, Flat, Run, Migrate, Check, IsForm, written_by, Does, WriteNothing}
 use Rattle.wcet_cli.specs.Call.{HasCause, NoForm, OfForm}
 
 -- a reply that is none of a fault is none
@@ -43,6 +43,16 @@ migrate_free : (target bytes : List ℕ) (files : List HeldFile) (said : Reply) 
 migrate_free target bytes files said (migrates c text vectors is f e) = free said _ e tt
 migrate_free target bytes files said (refuses r f) = free said _ r.3 tt
 
+pub check_free : (w : CheckWords) (texts : InputTexts) (certificate : List ℕ) (said : Reply) → CheckReply w texts certificate said → IsNoFault said
+check_free w texts certificate said (refused h) = inputs_free texts said h
+check_free w texts certificate said (passed inputs told (refused h)) = free said _ h.3 tt
+check_free w texts certificate said (passed inputs told (passed c read (refused h))) = free said _ h.3 tt
+check_free w texts certificate said (passed inputs told (passed c read (passed entry is (refused h)))) = free said _ h.2 tt
+check_free w texts certificate said (passed inputs told (passed c read (passed entry is (passed program sound (refused h))))) = free said _ h.1 tt
+check_free w texts certificate said (passed inputs told (passed c read (passed entry is (passed program sound (passed u small (accepts ok e)))))) = free said _ e tt
+check_free w texts certificate said (passed inputs told (passed c read (passed entry is (passed program sound (passed u small (rejects rule node vector broken e)))))) =
+    free said _ e tt
+
 does_free : (form : Form) (contents : List (List ℕ)) (files : List HeldFile) (said : Reply) → Does form contents files said → IsNoFault said
 does_free (Flat code) [] files said h = absurd h.says
 does_free (Flat code) (bytes ∷ []) files said h = flat_free bytes said h.says
@@ -53,6 +63,13 @@ does_free (Run w) (image ∷ facts ∷ []) files said h = absurd h.says
 does_free (Run w) (image ∷ facts ∷ machine ∷ []) files said h = absurd h.says
 does_free (Run w) (image ∷ facts ∷ machine ∷ start ∷ []) files said h = run_free w (record { image = image; facts = facts; machine = machine }) start said h.says
 does_free (Run w) (image ∷ facts ∷ machine ∷ start ∷ other ∷ contents) files said h = absurd h.says
+does_free (Check w) [] files said h = absurd h.says
+does_free (Check w) (image ∷ []) files said h = absurd h.says
+does_free (Check w) (image ∷ facts ∷ []) files said h = absurd h.says
+does_free (Check w) (image ∷ facts ∷ machine ∷ []) files said h = absurd h.says
+does_free (Check w) (image ∷ facts ∷ machine ∷ certificate ∷ []) files said h =
+    check_free w (record { image = image; facts = facts; machine = machine }) certificate said h.says
+does_free (Check w) (image ∷ facts ∷ machine ∷ certificate ∷ other ∷ contents) files said h = absurd h.says
 does_free (Migrate w) [] files said h = absurd h
 does_free (Migrate w) (bytes ∷ []) files said h = migrate_free w.target bytes files said h
 does_free (Migrate w) (bytes ∷ other ∷ contents) files said h = absurd h
@@ -61,6 +78,7 @@ does_free (Migrate w) (bytes ∷ other ∷ contents) files said h = absurd h
 none_to_write : (form : Form) (contents : List (List ℕ)) (files : List HeldFile) (said : Reply) → Does form contents files said → written_by form ≡ [] → files ≡ []
 none_to_write (Flat code) contents files said h none = h.none
 none_to_write (Run w) contents files said h none = h.none
+none_to_write (Check w) contents files said h none = h.none
 none_to_write (Migrate w) contents files said h none = absurd (some none)
   where
     some : {x : List ℕ} {xs : List (List ℕ)} → x ∷ xs ≡ [] → ⊥

@@ -5,7 +5,7 @@ use Rattle.run_machine.specs.declared.report.End.{End}
 use Rattle.run_machine.specs.declared.report.End.TheVariants as end
 use Rattle.wcet_front.specs.declared.reply.Reply.{Reply}
 use Rattle.wcet_front.specs.declared.reply.Reply.TheVariants as reply
-use Rattle.wcet_front.specs.Reply.{run_status, status_of, text_of, IsNoFault, IsSaid, InFull, Wanting, starved}
+use Rattle.wcet_front.specs.Reply.{run_status, status_of, IsNoFault, IsSaid, InFull, Wanting, starved}
 use Rattle.wcet_front.specs.Handing.{Took, HandsOver, Whole, Unwritten, Starved}
 use Rattle.wcet_cli.specs.Call.{EndsWith}
 
@@ -32,6 +32,8 @@ not_three (reply.BadFlow e) fine s = omega (arith, s)
 not_three (reply.Unreadable name) fine s = omega (arith, s)
 not_three (reply.BadCertificate e) fine s = omega (arith, s)
 not_three (reply.Migrated nodes vectors) fine s = omega (arith, s)
+not_three reply.ManyNodes fine s = omega (arith, s)
+not_three (reply.Rejected rule node vector) fine s = omega (arith, s)
 not_three (reply.Unwritten name) fine s = absurd fine
 not_three (reply.Ran report) fine s = run_is_not_three report.end s
 

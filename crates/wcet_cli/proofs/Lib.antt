@@ -8,8 +8,12 @@ pub mod Reading
 pub mod OneForm
 pub mod FaultFree
 pub mod RunDue
+pub mod CheckDue
 pub mod Migrating
 pub mod Answering
 pub mod Handed
 pub mod Ends
+pub mod Headline
 pub mod SomeDue
+pub mod ImageRanges
+pub mod AlwaysDue

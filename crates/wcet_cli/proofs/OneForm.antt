@@ -1,5 +1,5 @@
 -- Words are those of a command in one way.
-use Rattle.std.proofs.Common.{◌≡◌, ℕ, ◌≤◌, List, [], ◌∷◌, ◌++◌, Option, Some, None, refl, sym, ap, ◌∙◌, subst, arith}
+use Rattle.std.proofs.Common.{◌≡◌, ℕ, ◌≤◌, List, [], ◌∷◌, Option, Some, None, refl, sym, ap, ◌∙◌, subst, arith}
 use Rattle.std.specs.Prelude.{codes}
 use Rattle.std.specs.Str.Parse.{digits_value}
 use Rattle.std.specs.Fmt.{decimal}
@@ -9,8 +9,8 @@ use Rattle.wcet_front.specs.declared.reply.Reply.TheVariants as reply
 use Rattle.wx_host.specs.Outside.{Contents}
 use Rattle.wcet_front.specs.Files.{reads_of, ReadsAndReplies}
 use Rattle.wcet_front.specs.Writing.{RepliesOf}
-use Rattle.wcet_cli.specs.Words.{RunWords, IsRun, entry_words, most_steps, MigrateWords, IsMigrate}
-use Rattle.wcet_cli.specs.Commands.{Form, Flat, Run, Migrate, IsForm, FitsForm, files_of, written_by, Does, AreNamed, by_form, by_none, AreWrittenBy, to_form, to_none}
+use Rattle.wcet_cli.specs.Words.{RunWords, IsRun, entry_words, most_steps, MigrateWords, IsMigrate, CheckWords, IsCheck}
+use Rattle.wcet_cli.specs.Commands.{Form, Flat, Run, Migrate, Check, IsForm, FitsForm, files_of, written_by, Does, AreNamed, by_form, by_none, AreWrittenBy, to_form, to_none}
 use Rattle.wcet_cli.specs.Call as call
 use Rattle.wcet_cli.specs.Call.{IsCalledFor}
 
@@ -63,11 +63,25 @@ one_migrate words v w p q =
     let target = first (later e) in
     λ i. record { source = source i; target = target i }
 
+pub one_check : (words : List (List ℕ)) (v w : CheckWords) → IsCheck words v → IsCheck words w → v ≡ w
+one_check words v w p q =
+    let e0 = later (sym p ∙ q) in
+    let e1 = later e0 in
+    let e2 = later e1 in
+    let e3 = later e2 in
+    let image = first e0 in
+    let facts = first e1 in
+    let machine = first e2 in
+    let certificate = first e3 in
+    let entry = one_entry v.entry w.entry (later e3) in
+    λ i. record { image = image i; facts = facts i; machine = machine i; certificate = certificate i; entry = entry i }
+
 -- the first word of a command
 abbrev verb_of : Form → List ℕ
 verb_of (Flat code) = codes "flat"
 verb_of (Run w) = codes "run"
 verb_of (Migrate w) = codes "migrate"
+verb_of (Check w) = codes "check"
 
 abbrev first_word : List (List ℕ) → List ℕ
 first_word [] = []
@@ -77,6 +91,7 @@ says_verb : (words : List (List ℕ)) (form : Form) → IsForm words form → fi
 says_verb words (Flat code) is = ap first_word is
 says_verb words (Run w) is = ap first_word is.are
 says_verb words (Migrate w) is = ap first_word is
+says_verb words (Check w) is = ap first_word is
 
 same_verb : (words : List (List ℕ)) (f g : Form) → IsForm words f → IsForm words g → verb_of f ≡ verb_of g
 same_verb words f g p q = sym (says_verb words f p) ∙ says_verb words g q
@@ -90,6 +105,15 @@ flat_migrate e = cc
 run_migrate : codes "run" ≡ codes "migrate" → ⊥
 run_migrate e = cc
 
+flat_check : codes "flat" ≡ codes "check" → ⊥
+flat_check e = cc
+
+run_check : codes "run" ≡ codes "check" → ⊥
+run_check e = cc
+
+migrate_check : codes "migrate" ≡ codes "check" → ⊥
+migrate_check e = cc
+
 pub one_form : (words : List (List ℕ)) (f g : Form) → IsForm words f → IsForm words g → f ≡ g
 one_form words (Flat a) (Flat b) p q = ap Flat (first (later (sym p ∙ q)))
 one_form words (Flat a) (Run w) p q = absurd (flat_run (same_verb words (Flat a) (Run w) p q))
@@ -100,6 +124,13 @@ one_form words (Run v) (Migrate w) p q = absurd (run_migrate (same_verb words (R
 one_form words (Migrate v) (Flat b) p q = absurd (flat_migrate (same_verb words (Flat b) (Migrate v) q p))
 one_form words (Migrate v) (Run w) p q = absurd (run_migrate (same_verb words (Run w) (Migrate v) q p))
 one_form words (Migrate v) (Migrate w) p q = ap Migrate (one_migrate words v w p q)
+one_form words (Flat a) (Check w) p q = absurd (flat_check (same_verb words (Flat a) (Check w) p q))
+one_form words (Run v) (Check w) p q = absurd (run_check (same_verb words (Run v) (Check w) p q))
+one_form words (Migrate v) (Check w) p q = absurd (migrate_check (same_verb words (Migrate v) (Check w) p q))
+one_form words (Check v) (Flat b) p q = absurd (flat_check (same_verb words (Flat b) (Check v) q p))
+one_form words (Check v) (Run w) p q = absurd (run_check (same_verb words (Run w) (Check v) q p))
+one_form words (Check v) (Migrate w) p q = absurd (migrate_check (same_verb words (Migrate w) (Check v) q p))
+one_form words (Check v) (Check w) p q = ap Check (one_check words v w p q)
 
 -- the files that words name are those of their command
 pub named_by : (words names : List (List ℕ)) (form : Form) → IsForm words form → AreNamed words names → names ≡ files_of form

@@ -1,6 +1,6 @@
 -- The reply of `run` that is due, narrowed stage by stage: what each stage gave leaves the later ones.
 use Rattle.std.proofs.Common.{◌≡◌, ℕ, List, sym, ap, ◌∙◌, subst}
-use Rattle.wx_base.specs.Run.{Start, run_of}
+use Rattle.wx_base.specs.Run.{Start}
 use Rattle.flow_graph.specs.declared.program.Program.{Program}
 use Rattle.flow_graph.specs.Laws.{RulesAreOne}
 use Rattle.flow_graph.specs.Program.{rules_of}

@@ -21,7 +21,7 @@ use Rattle.wcet_front.specs.WritingLaws.{only_due, due_only}
 use Rattle.wcet_cli.specs.Straight.{is_plain_alu, origin, IsPlain, IsLast, bytes_of, address_behind, IsProgram, IsCutOff, IsForeign, bound_of}
 use Rattle.wcet_cli.specs.Words.{IsFlat}
 use Rattle.wcet_cli.specs.FlatCommand.{FlatReplies, bound, leaves_code, unsupported}
-use Rattle.wcet_cli.specs.Commands.{Form, Flat, Run, Migrate, IsForm, FitsForm, files_of, Does}
+use Rattle.wcet_cli.specs.Commands.{Form, Flat, Run, Migrate, Check, IsForm, FitsForm, files_of, Does}
 use Rattle.wcet_cli.specs.Call.{IsOther, IsCalledFor, by_none, by_form, AreBytes, IsDue}
 use Rattle.wcet_cli.proofs.OneForm.{called_of}
 use Rattle.wcet_cli.proofs.Reading.{one_flat_reply}
@@ -208,14 +208,19 @@ no_form words other none fits = by_command fits.form fits.is
     by_command (Flat name) is = none (name, is)
     by_command (Run w) is = other.no_run w is
     by_command (Migrate w) is = other.no_migrate w is
+    by_command (Check w) is = other.no_check w is
+
+-- some reply is due to the words of `flat`
+pub some_flat : (contents : Contents) (words : List (List ℕ)) (name : List ℕ) → IsFlat words name → AreBytes contents → (due : Reply) × IsDue contents words due
+some_flat contents words name is all =
+    let d = of_content contents name (contents name) refl all in
+    (d.due, record { cause = by_form (Flat name) is (due_only _ _ FlatReplies d.due d.cause); free = d.free })
 
 -- some reply is due
 pub some_is_due : (contents : Contents) (words : List (List ℕ)) → IsOther words → AreBytes contents → (due : Reply) × IsDue contents words due
 some_is_due contents words other all =
     ⊎_elim
-    (λ (fits : HasName words).
-    let d = of_content contents fits.0 (contents fits.0) refl all in
-    (d.due, record { cause = by_form (Flat fits.0) fits.1 (due_only _ _ FlatReplies d.due d.cause); free = d.free }))
+    (λ (fits : HasName words). some_flat contents words fits.0 fits.1 all)
     (λ (none : HasName words → ⊥). (reply.Usage, record { cause = by_none (no_form words other none) refl; free = tt }))
     (form words)
 
@@ -234,6 +239,7 @@ one_is_due contents words r s other_words p q = by_cause p.cause q.cause
     by_command (Flat name) is cause other = flat_one name (only_due _ _ FlatReplies r cause) (only_due _ _ FlatReplies s other)
     by_command (Run w) is cause other = absurd (other_words.no_run w is)
     by_command (Migrate w) is cause other = absurd (other_words.no_migrate w is)
+    by_command (Check w) is cause other = absurd (other_words.no_check w is)
 
     by_cause : IsCalledFor contents words r → IsCalledFor contents words s → r ≡ s
     by_cause (by_none unfit e) (by_none unfit' f) = e ∙ sym f

@@ -11,7 +11,7 @@ use Rattle.wcet_front.specs.Files.{Reads, reads_in, reads_of, ReadsFail, AsksFor
 use Rattle.wcet_front.specs.Writing.{RepliesOf, writes_in, IsUnwritten, Works, WorksInPart}
 use Rattle.wcet_front.specs.Handing.{Took}
 use Rattle.wcet_cli.specs.Commands.{Form, IsForm, FitsForm, files_of, Does, AreNamed}
-use Rattle.wcet_cli.specs.Words.{RunWords, IsRun, MigrateWords, IsMigrate}
+use Rattle.wcet_cli.specs.Words.{RunWords, IsRun, MigrateWords, IsMigrate, CheckWords, IsCheck}
 
 -- The cause of each reply to some words. Words that fit no form read and write nothing.
 pub data HasCause (used : StoreUse) (words : List (List ℕ)) (said : Reply) : Type 0 where
@@ -102,12 +102,21 @@ EndsWith taken taken' said ends = (ends ≡ starved) ⊎ ((ends ≡ status_of sa
 abbrev pub AreBytes : Contents → Type 0
 AreBytes contents = (name bytes : List ℕ) → contents name ≡ Some bytes → AllByRecursion (λ byte. byte < 256) bytes
 
--- the words are not of the form of `run`, nor of that of `migrate`
+-- the words are not of the form of `run`, nor of that of `migrate`, nor of that of `check`
 pub record IsOther (words : List (List ℕ)) : Type 0 where
   pub no_run : (w : RunWords) → IsRun words w → ⊥
   pub no_migrate : (w : MigrateWords) → IsMigrate words w → ⊥
+  pub no_check : (w : CheckWords) → IsCheck words w → ⊥
 
--- Whatever the words, unless they are of the form of `run` or `migrate`, and whatever a store holds, some reply is due.
+-- the words are not of the form of `check`
+abbrev pub IsNoCheck : List (List ℕ) → Type 0
+IsNoCheck words = (w : CheckWords) → IsCheck words w → ⊥
+
+-- Whatever the words, unless they are of the form of `check`, and whatever a store holds, some reply is due: it cannot be that none is.
+abbrev pub NeverNone : Type 0
+NeverNone = (contents : Contents) (words : List (List ℕ)) → IsNoCheck words → AreBytes contents → ((due : Reply) → IsDue contents words due → ⊥) → ⊥
+
+-- Whatever the words, unless they are of the form of `run`, `migrate` or `check`, and whatever a store holds, some reply is due.
 abbrev pub SomeReplyIsDue : Type 0
 SomeReplyIsDue =
     (contents : Contents) (words : List (List ℕ)) → IsOther words → AreBytes contents → (due : Reply) × IsDue contents words due

@@ -5,40 +5,47 @@ use Rattle.wcet_cli.specs.declared.command.Command.{Command}
 use Rattle.wcet_cli.specs.declared.command.Command.TheVariants as command
 use Rattle.wcet_cli.specs.declared.command.RunCommand.{RunCommand}
 use Rattle.wcet_cli.specs.declared.command.MigrateCommand.{MigrateCommand}
-use Rattle.wcet_cli.specs.Words.{IsFlat, RunWords, IsRun, MigrateWords, IsMigrate}
+use Rattle.wcet_cli.specs.declared.command.CheckCommand.{CheckCommand}
+use Rattle.wcet_cli.specs.Words.{IsFlat, RunWords, IsRun, MigrateWords, IsMigrate, CheckWords, IsCheck}
 use Rattle.wcet_cli.specs.FlatCommand.{FlatReplies}
 use Rattle.wcet_cli.specs.RunCommand.{run_files, RunReplies}
 use Rattle.wcet_cli.specs.MigrateCommand.{MigrateDoes}
+use Rattle.wcet_cli.specs.CheckCommand.{check_files, CheckReplies}
 
 -- a command with what its words name
 pub data Form : Type 0 where
   Flat : List ℕ → Form
   Run : RunWords → Form
   Migrate : MigrateWords → Form
+  Check : CheckWords → Form
 
 -- the words say this command
 abbrev pub IsForm : List (List ℕ) → Form → Type 0
 IsForm words (Flat code) = IsFlat words code
 IsForm words (Run w) = IsRun words w
 IsForm words (Migrate w) = IsMigrate words w
+IsForm words (Check w) = IsCheck words w
 
 -- the files that it reads, in this order
 abbrev pub files_of : Form → List (List ℕ)
 files_of (Flat code) = code ∷ []
 files_of (Run w) = run_files w
 files_of (Migrate w) = w.source ∷ []
+files_of (Check w) = check_files w
 
 -- the files that it writes, in this order
 abbrev pub written_by : Form → List (List ℕ)
 written_by (Flat code) = []
 written_by (Run w) = []
 written_by (Migrate w) = w.target ∷ []
+written_by (Check w) = []
 
 -- what it does to the contents of those that it reads
 abbrev pub Does : Form → Deed
 Does (Flat code) = OnlyReplies FlatReplies
 Does (Run w) = OnlyReplies (RunReplies w)
 Does (Migrate w) = MigrateDoes w
+Does (Check w) = OnlyReplies (CheckReplies w)
 
 -- the words fit the form of a command
 pub record FitsForm (words : List (List ℕ)) : Type 0 where
@@ -74,8 +81,19 @@ run_words c = record {
   entry = option_copied c.entry;
 }
 
+-- what the words of `check` name
+abbrev pub check_words : CheckCommand → CheckWords
+check_words c = record {
+  image = c.inputs.image.now;
+  facts = c.inputs.facts.now;
+  machine = c.inputs.machine.now;
+  certificate = c.certificate.now;
+  entry = option_copied c.entry;
+}
+
 -- the command as the program keeps it
 abbrev pub form_of : Command → Form
 form_of (command.Flat code) = Flat code.now
 form_of (command.Run run) = Run (run_words run)
 form_of (command.Migrate migrate) = Migrate (migrate_words migrate)
+form_of (command.Check check) = Check (check_words check)

@@ -4,5 +4,6 @@ pub mod Words
 pub mod FlatCommand
 pub mod RunCommand
 pub mod MigrateCommand
+pub mod CheckCommand
 pub mod Commands
 pub mod Call

@@ -5,7 +5,6 @@ use Rattle.wx_base.specs.Monitor.{Rules}
 use Rattle.wx_base.specs.Run.{Start, run_of}
 use Rattle.wx_host.specs.Outside.{Contents}
 use Rattle.flow_graph.specs.declared.error.FlowError.{FlowError}
-use Rattle.flow_graph.specs.declared.program.Program.{Program}
 use Rattle.flow_graph.specs.Program.{rules_of}
 use Rattle.flow_graph.specs.Refusals.{IsCause}
 use Rattle.run_machine.specs.declared.report.Report.{Report}

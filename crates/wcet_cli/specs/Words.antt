@@ -37,3 +37,15 @@ most_steps = 1000000000
 pub record IsRun (words : List (List ℕ)) (w : RunWords) : Type 0 where
   pub are : words ≡ (codes "run" ∷ w.image ∷ w.facts ∷ w.machine ∷ w.start ∷ decimal w.steps ∷ []) ++ entry_words w.entry
   pub few : w.steps ≤ most_steps
+
+-- the words of `check`: names of the files, and the name of the entry if one is given
+pub record CheckWords : Type 0 where
+  pub image : List ℕ
+  pub facts : List ℕ
+  pub machine : List ℕ
+  pub certificate : List ℕ
+  pub entry : Option (List ℕ)
+
+-- the words are `check` with these
+abbrev pub IsCheck : List (List ℕ) → CheckWords → Type 0
+IsCheck words w = words ≡ (codes "check" ∷ w.image ∷ w.facts ∷ w.machine ∷ w.certificate ∷ []) ++ entry_words w.entry

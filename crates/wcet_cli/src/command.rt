@@ -2,8 +2,8 @@
 
 ghost use Rattle.std.specs.Prelude.{◌≡◌, ◌↔◌, ◌≤◌, ℕ, List, IsTrue, IfSome, MatchOption, Some, map, string_bytes, option_copied};
 ghost use Rattle.wx_text.specs.Decimal.{decimal};
-ghost use Rattle.wcet_cli.specs.Words.{IsFlat, IsMigrate, IsRun, MigrateWords, RunWords, entry_words, most_steps};
-ghost use Rattle.wcet_cli.specs.Commands.{FitsForm, IsForm, form_of, migrate_words, run_words};
+ghost use Rattle.wcet_cli.specs.Words.{CheckWords, IsCheck, IsFlat, IsMigrate, IsRun, MigrateWords, RunWords, entry_words, most_steps};
+ghost use Rattle.wcet_cli.specs.Commands.{FitsForm, IsForm, check_words, form_of, migrate_words, run_words};
 
 use wcet_front::InputNames;
 use wx_text::read_number;
@@ -20,6 +20,8 @@ pub enum Command<'a> {
     Run { run: RunCommand<'a> },
     /// `migrate` and what it names.
     Migrate { migrate: MigrateCommand<'a> },
+    /// `check` and what it names.
+    Check { check: CheckCommand<'a> },
 }
 
 /// What the words of `run` name.
@@ -44,6 +46,17 @@ pub struct MigrateCommand<'a> {
     pub target: &'a str,
 }
 
+/// What the words of `check` name.
+#[derive(Clone, Copy)]
+pub struct CheckCommand<'a> {
+    /// The names of the files of the image, the facts and the machine.
+    pub inputs: InputNames<'a>,
+    /// The name of the certificate's file.
+    pub certificate: &'a str,
+    /// The name of the symbol where runs begin; without it the image's entry.
+    pub entry: Option<&'a str>,
+}
+
 /// The command that the words are; None exactly where they fit no form.
 pub fn command_of(words: &[String]) -> Option<Command<'_>>
     ensures { let said = map string_bytes words.now in
@@ -54,6 +67,9 @@ pub fn command_of(words: &[String]) -> Option<Command<'_>>
     }
     if let Some(migrate) = migrate_command(words) {
         return Some(Command::Migrate { migrate });
+    }
+    if let Some(check) = check_command(words) {
+        return Some(Command::Check { check });
     }
     let run = run_command(words)?;
     Some(Command::Run { run })
@@ -90,6 +106,30 @@ fn migrate_command(words: &[String]) -> Option<MigrateCommand<'_>>
     } else {
         None
     }
+}
+
+/// What the words name, where they are those of `check`.
+fn check_command(words: &[String]) -> Option<CheckCommand<'_>>
+    ensures { let said = map string_bytes words.now in
+        MatchOption result ((w : CheckWords) → ¬ IsCheck said w) (λ check. IsCheck said (check_words check)) }
+{
+    let [verb, image, facts, machine, certificate, behind @ ..] = words else {
+        return None;
+    };
+    if !is_word(verb.as_str(), "check") {
+        return None;
+    }
+    let entry = entry_in(behind)?;
+    let inputs = InputNames {
+        image: image.as_str(),
+        facts: facts.as_str(),
+        machine: machine.as_str(),
+    };
+    Some(CheckCommand {
+        inputs,
+        certificate: certificate.as_str(),
+        entry,
+    })
 }
 
 /// What the words name, where they are those of `run`.

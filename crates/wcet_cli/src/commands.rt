@@ -1,5 +1,6 @@
 //! The commands, a module each.
 
+pub(crate) mod check;
 pub(crate) mod flat;
 pub(crate) mod migrate;
 pub(crate) mod run;

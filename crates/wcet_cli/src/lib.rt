@@ -11,7 +11,9 @@ ghost use Rattle.wcet_front.specs.Reply.{IsNoFault};
 ghost use Rattle.wcet_front.specs.Stages.{Answers, OnStarved};
 ghost use Rattle.wcet_front.specs.Writing.{Leaves};
 ghost use Rattle.wcet_cli.specs.Call.{HasCause, HoldsInPart, IsAnswer, IsDue, IsStarved, IsTooLarge, ReadsNothing, Refuses, WritesNot, EndsWith};
+ghost use Rattle.wcet_cli.specs.Words.{CheckWords, IsCheck};
 ghost use Rattle.wcet_cli.specs.Commands.{AreNamed, AreWrittenBy, FitsForm, WriteNothing};
+ghost use Rattle.wcet_cli.specs.CheckCommand.{AcceptsBound, BoundsEveryRun};
 ghost use Rattle.wcet_cli.specs.FlatCommand.{AnswersBound};
 ghost use Rattle.wcet_cli.specs.MigrateCommand.{Migrates};
 ghost use Rattle.wcet_cli.specs.RunCommand.{ReportsRun};
@@ -21,8 +23,11 @@ mod commands;
 mod laws;
 
 use crate::command::{Command, command_of};
-use crate::commands::{flat, migrate, run};
+use crate::commands::{check, flat, migrate, run};
+use bound_laws::valid_bounds_hold;
+use elf_image::images_are_loaded;
 pub use laws::{one_reply_is_due, straight_runs_obey};
+use machine_desc::descriptions_are_in_range;
 use pipe_time::worse_is_no_faster;
 use std::alloc::Global;
 use wcet_front::{Reply, Stop, say, say_memory};
@@ -41,14 +46,19 @@ use wx_base::{Machine, NoMemory, Sink, Store};
 /// `migrate OLD NEW` reads a certificate, of either version, writes its text of version 2 under the second name, and
 /// says how many nodes and how many different vectors it has.
 ///
+/// `check IMAGE FACTS MACHINE CERT`, perhaps with `entry NAME` behind it, reads a certificate and judges it by its rules
+/// for the program of image, facts, machine and entry. Where it is valid it says `bound B`: no run that obeys the facts
+/// takes more than B cycles; else the first rule that it breaks, the node and the vector.
+///
 /// Files are read in the order of the words, and the first that cannot be read decides. What is written is made whole
 /// before it is written, and the text before its first piece is put. A name that is written may be one that is read.
 /// `flat` is linear in the length of its file; `run` takes the time of the readers of its files, of `build` of
-/// `flow_graph`, and of at most N steps; `migrate` is linear in the length of its file but for the sorting of vectors.
+/// `flow_graph`, and of at most N steps; `migrate` is linear in the length of its file but for the sorting of vectors;
+/// `check` takes the time of the readers, of `build`, of `unfold` of `flow_ctx` and of `check` of `cert_check`.
 ///
 /// | status | line | when |
 /// |---|---|---|
-/// | 0 | `bound B` | the bound is known |
+/// | 0 | `bound B` | the bound is known: by `flat`, or by `check`, where the certificate is valid |
 /// | 0 | `time T steps K end ended`, or `limit`, or `stopped WHY ADDR` | the run came to this |
 /// | 0 | `migrated N V` | the certificate is written |
 /// | 1 | `usage` | the words fit no form |
@@ -58,12 +68,21 @@ use wx_base::{Machine, NoMemory, Sink, Store};
 /// | 4 | `image REFUSAL FIELDS`, `image NoEntry NAME` | the image, or its flow, is refused, or it has no such symbol; of `flat`, the words lead to no word, or to one that no straight program has |
 /// | 5 | `facts REFUSAL FIELDS` | the facts are refused |
 /// | 6 | `machine REFUSAL FIELDS` | the description is refused |
-/// | 7 | `certificate REFUSAL FIELDS` | the certificate is refused |
+/// | 7 | `certificate REFUSAL FIELDS` | the text is no certificate |
+/// | 8 | `rejected RULE NODE VECTOR` | the certificate is not valid: it breaks this rule first, at this vector of this node |
 /// | 9 | `memory` | want of memory |
 /// | 10 | `large file NAME` | the file has more than 16,777,216 bytes |
+/// | 10 | `large nodes` | the program has more than 4,096 blocks in their chains of calls |
 /// | 11 | `breaks FACT ADDR STEPS` | the run breaks a fact |
 /// | 12 | `start line L`, `start set S` | the start file is refused |
 pub fn wcet<S: Store, O: Sink>(alloc: Global, words: &[String], store: &mut S, out: &mut O) -> u8
+    // The headline. Where `check` ends with status 0, no run takes longer than the bound that the output took. That is
+    // every run of the image on the machine from the entry, as the files held them when the call began: whatever the
+    // registers, the flags, the bytes outside the image and the cache hold at the start, wherever the run is cut, and up
+    // to the first move that breaks a fact. Nothing is assumed of the certificate, nor of whoever made it.
+    ensures headline { (w : CheckWords) → result ≡ 0 → IsCheck (map string_bytes words.now) w
+        → BoundsEveryRun (S.holds store.old) w (O.taken out.old) (O.taken out.new) }
+
     // The status and the text are those of a reply that has its cause, or want of memory; which files were asked for
     // and what was written is part of the cause. The text was handed over, or the sink failed, or memory was wanting.
     ensures answer { let before = state_of (S.holds store.old) (log_of (S.read_faults store.old) (S.read_names store.old))
@@ -79,7 +98,8 @@ pub fn wcet<S: Store, O: Sink>(alloc: Global, words: &[String], store: &mut S, o
         let taken = O.taken out.old in
         result ≡ 0 → AnswersBound (S.holds store.old) said taken (O.taken out.new)
         ⊎ ReportsRun (S.holds store.old) said taken (O.taken out.new) 0
-        ⊎ Migrates (S.holds store.old) (S.holds store.new) said taken (O.taken out.new) }
+        ⊎ Migrates (S.holds store.old) (S.holds store.new) said taken (O.taken out.new)
+        ⊎ AcceptsBound (S.holds store.old) said taken (O.taken out.new) }
     ensures misused { result ≡ 1 → ¬ FitsForm (map string_bytes words.now) }
     ensures unread { let before = log_of (S.read_faults store.old) (S.read_names store.old) in
         let after = log_of (S.read_faults store.new) (S.read_names store.new) in
@@ -96,10 +116,12 @@ pub fn wcet<S: Store, O: Sink>(alloc: Global, words: &[String], store: &mut S, o
     ensures refused_facts { result ≡ 5 → Refuses (S.holds store.old) (map string_bytes words.now) 5 }
     ensures refused_machine { result ≡ 6 → Refuses (S.holds store.old) (map string_bytes words.now) 6 }
     ensures refused_certificate { result ≡ 7 → Refuses (S.holds store.old) (map string_bytes words.now) 7 }
+    ensures rejected { result ≡ 8 → Refuses (S.holds store.old) (map string_bytes words.now) 8 }
     ensures too_large { let before = log_of (S.read_faults store.old) (S.read_names store.old) in
         let after = log_of (S.read_faults store.new) (S.read_names store.new) in
         let reads = reads_between (S.holds store.old) before after in
-        result ≡ 10 → IsTooLarge reads (map string_bytes words.now) }
+        result ≡ 10 → IsTooLarge reads (map string_bytes words.now)
+        ⊎ Refuses (S.holds store.old) (map string_bytes words.now) 10 }
     ensures breaks_fact { let said = map string_bytes words.now in
         result ≡ 11 → ReportsRun (S.holds store.old) said (O.taken out.old) (O.taken out.new) 11 }
     ensures refused_start { result ≡ 12 → Refuses (S.holds store.old) (map string_bytes words.now) 12 }
@@ -142,6 +164,9 @@ pub fn wcet<S: Store, O: Sink>(alloc: Global, words: &[String], store: &mut S, o
     ensures unasked { ¬ FitsForm (map string_bytes words.now) → S.asked store.new ≡ S.asked store.old }
 {
     worse_is_no_faster();
+    valid_bounds_hold();
+    images_are_loaded();
+    descriptions_are_in_range();
     m1_is_in_range(alloc);
     match settled(answer_to(alloc, words, store)) {
         Ok(reply) => say(alloc, reply, out),
@@ -190,6 +215,7 @@ fn answer_to<S: Store>(alloc: Global, words: &[String], store: &mut S) -> Result
         Some(Command::Flat { code }) => flat::flat(alloc, code, store),
         Some(Command::Run { run }) => run::run(alloc, &run, store),
         Some(Command::Migrate { migrate }) => migrate::migrate(alloc, &migrate, store),
+        Some(Command::Check { check }) => check::check(alloc, &check, store),
         None => Ok(Reply::Usage),
     }
 }

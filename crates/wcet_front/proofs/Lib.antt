@@ -5,3 +5,5 @@ pub mod OneStart
 pub mod Putting
 pub mod Unwritten
 pub mod NoCertificate
+pub mod Listed
+pub mod FewNodes

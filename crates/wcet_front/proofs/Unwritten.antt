@@ -3,7 +3,6 @@ use Rattle.std.proofs.Common.{◌≡◌, ℕ, inl, inr, List, [], ◌∷◌, Opt
 use Rattle.wx_host.specs.declared.store.StoreFault.{StoreFault}
 use Rattle.wx_host.specs.declared.store.StoreFault.TheVariants as store_fault
 use Rattle.wx_host.specs.Outside.{Contents, NamesGive, WriteGives, ChangesOnly}
-use Rattle.wcet_front.specs.declared.reply.Reply.{Reply}
 use Rattle.wcet_front.specs.declared.reply.Reply.TheVariants as reply
 use Rattle.wcet_front.specs.declared.stop.Stop.{Stop}
 use Rattle.wcet_front.specs.Reply.{IsNoFault}

@@ -1,13 +1,12 @@
 -- Laws of files that are read one after the other, for the commands that read them.
-use Rattle.std.specs.Prelude.{◌≡◌, ◌≤◌, ⊤, ◌⊎◌, ℕ, List, [], ◌∷◌, ◌++◌, length, Option, Some, None}
+use Rattle.std.specs.Prelude.{◌≡◌, ◌≤◌, ℕ, List, [], ◌∷◌, ◌++◌, length, Option, Some, None}
 use Rattle.std.proofs.Common.{◌<◌, inl, inr, refl, sym, ap, ◌∙◌, subst, arith, append_assoc, length-append}
 use Rattle.wx_host.specs.Outside.{Contents, Rose, IsMissing, IsCut}
 use Rattle.wcet_front.specs.declared.reply.Reply.{Reply}
-use Rattle.wcet_front.specs.declared.reply.Reply.TheVariants as reply
 use Rattle.wcet_front.specs.Growth.{Appends}
 use Rattle.wcet_front.specs.Reply.{IsNoFault}
 use Rattle.wcet_front.specs.StoreUse.{Log}
-use Rattle.wcet_front.specs.Files.{Reads, reads_between, reads_of, ReadsFail, AsksFor, IsContent, AreContents, IsUnread, failed, missing, long, IsComeTo, IsFirstUnread, AreRead, IsCutShort, ReadsAndReplies, unread, replied}
+use Rattle.wcet_front.specs.Files.{Reads, reads_between, reads_of, IsContent, AreContents, IsUnread, failed, missing, long, IsFirstUnread, AreRead, IsCutShort, ReadsAndReplies, unread, replied}
 
 -- what grew twice grew by both
 pub appends_both : {A : Type 0} (before mid after : Option (List A)) (xs ys : List A) → Appends before mid xs → Appends mid after ys → Appends before after (xs ++ ys)

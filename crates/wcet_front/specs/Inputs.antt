@@ -1,6 +1,5 @@
 -- The stages that most commands begin with: an image, facts on it, a machine and an entry; and its flow, from there; and certificates. This project's own.
-use Rattle.std.specs.Prelude.{◌≡◌, ◌≢◌, ℕ, List, Option, Some, None, length}
-use Rattle.wx_base.specs.declared.facts.Facts.{Facts}
+use Rattle.std.specs.Prelude.{◌≡◌, ◌≢◌, ◌≤◌, ℕ, List, Option, Some, None, length}
 use Rattle.wx_base.specs.declared.image.Image.{Image}
 use Rattle.wx_base.specs.declared.machine.Machine.{Machine}
 use Rattle.wx_base.specs.declared.symbol.Symbol.{Symbol}
@@ -17,6 +16,8 @@ use Rattle.machine_desc.specs.Causes as machine_desc
 use Rattle.flow_graph.specs.declared.error.FlowError.{FlowError}
 use Rattle.flow_graph.specs.declared.program.Program.{Program}
 use Rattle.flow_graph.specs.Refusals as flow
+use Rattle.flow_ctx.specs.declared.unfolded.Unfolded.{Unfolded}
+use Rattle.flow_ctx.specs.Unfolding.{HasTooManyNodes, IsUnfolding, most_nodes}
 use Rattle.start_file.specs.declared.start_error.StartError.{StartError}
 use Rattle.start_file.specs.declared.start_error.StartError.TheVariants as start_error
 use Rattle.start_file.specs.declared.start_state.Start.{Start}
@@ -95,6 +96,15 @@ IsSoundProgram inputs entry program = flow.IsSoundProgram inputs.image inputs.fa
 abbrev pub IsFlowRefusal : Inputs → ℕ → Reply → Type 0
 IsFlowRefusal inputs entry said =
     (e : FlowError) × flow.IsFirst inputs.image inputs.facts entry inputs.machine e × (said ≡ reply.BadFlow e)
+
+-- the unfolding of a program, which has not too many nodes
+pub record IsSmallUnfolding (program : Program) (u : Unfolded) : Type 0 where
+  pub is : IsUnfolding program u
+  pub few : length u.nodes ≤ most_nodes
+
+-- the program has too many blocks in their chains of calls
+abbrev pub IsUnfoldRefusal : Program → Reply → Type 0
+IsUnfoldRefusal program said = HasTooManyNodes program × (said ≡ reply.ManyNodes)
 
 -- the bytes are no certificate
 abbrev pub IsCertRefusal : List ℕ → Reply → Type 0

@@ -10,8 +10,8 @@ use Rattle.wcet_front.specs.RefusalText.{further, image_refusal, facts_refusal, 
 use Rattle.wcet_front.specs.ReportText.{report_text}
 
 -- the statuses: the defined answer; words that fit no form; a file that cannot be read; a file that cannot be written, or a text that
--- cannot be handed over; a refused image, facts, description of a machine, certificate; want of memory; something too large; a run that
--- breaks a fact; a refused start
+-- cannot be handed over; a refused image, facts, description of a machine, certificate; a certificate that is not valid; want of memory;
+-- something too large; a run that breaks a fact; a refused start
 abbrev pub answered : ℕ
 answered = 0
 
@@ -35,6 +35,9 @@ refused_machine = 6
 
 abbrev pub refused_certificate : ℕ
 refused_certificate = 7
+
+abbrev pub rejected : ℕ
+rejected = 8
 
 abbrev pub starved : ℕ
 starved = 9
@@ -73,6 +76,8 @@ status_of (reply.Ran report) = run_status report.end
 status_of (reply.BadCertificate refusal) = refused_certificate
 status_of (reply.Migrated nodes vectors) = answered
 status_of (reply.Unwritten name) = unwritten
+status_of reply.ManyNodes = too_large
+status_of (reply.Rejected rule node vector) = rejected
 
 -- a line ends with LF
 abbrev pub line : List ℕ → List ℕ
@@ -97,6 +102,9 @@ text_of (reply.Ran report) = line (report_text report)
 text_of (reply.BadCertificate refusal) = line (codes "certificate " ++ certificate_refusal refusal)
 text_of (reply.Migrated nodes vectors) = line (codes "migrated" ++ further (decimal nodes) ++ further (decimal vectors))
 text_of (reply.Unwritten name) = line (codes "write " ++ name)
+text_of reply.ManyNodes = line (codes "large nodes")
+text_of (reply.Rejected rule node vector) =
+    line (codes "rejected" ++ further (decimal rule) ++ further (decimal node) ++ further (decimal vector))
 
 -- what is said where memory is wanting
 abbrev pub memory_line : List ℕ

@@ -1,5 +1,5 @@
 -- Laws of stages, for the commands that are made of them.
-use Rattle.std.specs.Prelude.{◌≡◌, ⊤, Result, Ok, Err, IsErr, IsErrAnd}
+use Rattle.std.specs.Prelude.{◌≡◌, Result, Ok, Err, IsErr, IsErrAnd}
 use Rattle.std.proofs.Common.{sym, subst}
 use Rattle.wcet_front.specs.declared.reply.Reply.{Reply}
 use Rattle.wcet_front.specs.declared.stop.Stop.{Stop}

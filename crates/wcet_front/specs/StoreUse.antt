@@ -1,5 +1,5 @@
 -- What a call does to its store, as far as the store tells it. This project's own.
-use Rattle.std.specs.Prelude.{◌≡◌, ℕ, List, Option, Some}
+use Rattle.std.specs.Prelude.{◌≡◌, ℕ, List, Option}
 use Rattle.wx_host.specs.Outside.{Contents}
 
 -- what a store tells of its reads, or of its writes, so far: how many failed, and their names in order, where it tells these

@@ -1,14 +1,14 @@
 -- Laws of files that are written, for the commands that write them and for those that don't.
-use Rattle.std.specs.Prelude.{◌≡◌, ⊤, ◌⊎◌, ℕ, Bool, true, false, List, [], ◌∷◌, ◌++◌, map, Option, Some, None, option_map, if◌then◌else◌}
-use Rattle.std.proofs.Common.{inl, inr, refl, sym, ap, ◌∙◌, subst, append_assoc}
+use Rattle.std.specs.Prelude.{◌≡◌, ℕ, Bool, true, false, List, [], ◌∷◌, ◌++◌, Option, Some, None, if◌then◌else◌}
+use Rattle.std.proofs.Common.{refl, sym, ap, ◌∙◌, subst}
 use Rattle.std.specs.Option.{option_or}
 use Rattle.std.specs.Str.{bytes_eq}
 use Rattle.std.proofs.lemmas.Slice.Eq.{bytes_eq-Decides}
-use Rattle.wx_host.specs.Outside.{Contents, Rose, IsWhole, ChangesOnly, with_name}
-use Rattle.wx_host.specs.MemStore.{HeldFile, held}
+use Rattle.wx_host.specs.Outside.{Contents, Rose, IsWhole, ChangesOnly}
+use Rattle.wx_host.specs.MemStore.{HeldFile}
 use Rattle.wcet_front.specs.declared.reply.Reply.{Reply}
 use Rattle.wcet_front.specs.Growth.{Appends}
-use Rattle.wcet_front.specs.StoreUse.{Log, log_of, state_of, StoreUse, use_between, IsUntouched}
+use Rattle.wcet_front.specs.StoreUse.{log_of, state_of, StoreUse, use_between, IsUntouched}
 use Rattle.wcet_front.specs.Files.{Reads, reads_between, reads_in, AreRead, IsCutShort, IsFirstUnread, ReadsAndReplies, unread, replied}
 use Rattle.wcet_front.specs.Writing as writing
 use Rattle.wcet_front.specs.Writing.{file_of, names_of, with_files, writes_in, AreWritten, IsUnwritten, IsFirstUnwritten, IsFrontWritten, IsCutInWriting, at_front, at_fault, Deed, OnlyReplies, RepliesOf, Works, WorksInPart, in_reading, in_writing}

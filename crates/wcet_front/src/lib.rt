@@ -15,6 +15,6 @@ pub use files::{read_file, read_inputs};
 pub use handing::{say, say_memory};
 pub use inputs::{InputNames, InputTexts, Inputs};
 pub use reply::Reply;
-pub use stages::{certificate_in, entry_in, inputs_in, program_of, start_in};
+pub use stages::{certificate_in, entry_in, inputs_in, program_of, start_in, unfolding_of};
 pub use stop::Stop;
 pub use writing::write_file;

@@ -10,12 +10,12 @@ use self::pieces::{
 };
 use self::refusal_lines::{
     push_bad_certificate, push_bad_facts, push_bad_flow, push_bad_image, push_bad_machine,
-    push_bad_start,
+    push_bad_start, push_rejected,
 };
 use self::report_line::push_report;
 use crate::status::{
     ANSWERED, BREAKS_FACT, MISUSED, REFUSED_CERTIFICATE, REFUSED_FACTS, REFUSED_IMAGE,
-    REFUSED_MACHINE, REFUSED_START, TOO_LARGE, UNREAD, UNWRITTEN,
+    REFUSED_MACHINE, REFUSED_START, REJECTED, TOO_LARGE, UNREAD, UNWRITTEN,
 };
 use cert_text::CertError;
 use elf_image::ElfError;
@@ -64,6 +64,10 @@ pub enum Reply {
     Migrated { nodes: u64, vectors: u64 },
     /// The store failed to write this file.
     Unwritten { name: Text },
+    /// The program has more than 4,096 blocks in their chains of calls.
+    ManyNodes,
+    /// The certificate breaks this rule first, at this vector of this node.
+    Rejected { rule: u64, node: u64, vector: u64 },
 }
 
 impl Reply {
@@ -92,6 +96,8 @@ impl Reply {
             Reply::BadCertificate { .. } => REFUSED_CERTIFICATE,
             Reply::Migrated { .. } => ANSWERED,
             Reply::Unwritten { .. } => UNWRITTEN,
+            Reply::ManyNodes => TOO_LARGE,
+            Reply::Rejected { .. } => REJECTED,
         }
     }
 
@@ -134,6 +140,10 @@ impl Reply {
             }
             Reply::Unwritten { name } => {
                 push_named(&mut text, b"write".as_slice(), name.as_bytes())?
+            }
+            Reply::ManyNodes => push(&mut text, b"large nodes".as_slice())?,
+            Reply::Rejected { rule, node, vector } => {
+                push_rejected(&mut text, *rule, *node, *vector)?
             }
         }
         text.push(b'\n')?;

@@ -8,9 +8,10 @@ ghost use Rattle.wx_base.specs.State.{pc};
 ghost use Rattle.ffx_facts.specs.Causes.{AreFactsOf};
 ghost use Rattle.machine_desc.specs.Causes.{IsDescription};
 ghost use Rattle.start_file.specs.StartState.{start_of};
+ghost use Rattle.flow_ctx.specs.Laws.{IsBuilt};
 ghost use Rattle.cert_text.specs.Text.{IsTextOf};
 ghost use Rattle.cert_text.specs.Writable.{IsWritable};
-ghost use Rattle.wcet_front.specs.Inputs.{AreTold, IsCertRefusal, IsEntryOf, IsEntryRefusal, IsFactsRefusal, IsFlowRefusal, IsImageOf, IsImageRefusal, IsInputsRefusal, IsMachineRefusal, IsSoundProgram, IsStartRefusal, IsStartTold};
+ghost use Rattle.wcet_front.specs.Inputs.{AreTold, IsCertRefusal, IsEntryOf, IsEntryRefusal, IsFactsRefusal, IsFlowRefusal, IsImageOf, IsImageRefusal, IsInputsRefusal, IsMachineRefusal, IsSmallUnfolding, IsSoundProgram, IsStartRefusal, IsStartTold, IsUnfoldRefusal};
 ghost use Rattle.wcet_front.specs.Stages.{Gives, GivesOnly, RefusesNothing, RefusesWith, StopsWith};
 
 use crate::inputs::{InputTexts, Inputs};
@@ -19,7 +20,8 @@ use crate::stop::Stop;
 use cert_text::{CertError, Certificate, read_cert};
 use elf_image::{ElfError, read_image};
 use ffx_facts::{FactsError, facts_are_one, read_facts};
-use flow_graph::{FlowError, Program, build};
+use flow_ctx::{UnfoldError, Unfolded, unfold, unfoldings_are_one};
+use flow_graph::{FlowError, Program, build, program_is_one};
 use machine_desc::{MachineError, read_machine};
 use start_file::{Start, StartError, read_start};
 use std::alloc::Global;
@@ -169,9 +171,10 @@ pub fn program_of(alloc: Global, inputs: &Inputs, entry: u32) -> Result<Program,
     requires facts { FactsAscend inputs.now.facts }
     requires machine { IsMachine inputs.now.machine }
     ensures cause { Gives (IsSoundProgram inputs.now entry) (IsFlowRefusal inputs.now entry) result }
-    ensures due { (program : _) → IsSoundProgram inputs.now entry program → RefusesNothing result }
+    ensures due { (program : _) → IsSoundProgram inputs.now entry program → GivesOnly program result }
     ensures refusal_due { (said : _) → IsFlowRefusal inputs.now entry said → RefusesWith said result }
 {
+    program_is_one();
     let Inputs {
         image,
         facts,
@@ -182,6 +185,23 @@ pub fn program_of(alloc: Global, inputs: &Inputs, entry: u32) -> Result<Program,
         Err(FlowError::NoMemory) => Err(Stop::NoMemory),
         Err(refusal) => Err(Stop::Replied {
             reply: Reply::BadFlow { refusal },
+        }),
+    }
+}
+
+/// The unfolding of a program by its chains of calls.
+pub fn unfolding_of(alloc: Global, program: Program) -> Result<Unfolded, Stop>
+    requires { IsBuilt program }
+    ensures cause { Gives (IsSmallUnfolding program) (IsUnfoldRefusal program) result }
+    ensures due { (unfolded : _) → IsSmallUnfolding program unfolded → GivesOnly unfolded result }
+    ensures refusal_due { (said : _) → IsUnfoldRefusal program said → RefusesWith said result }
+{
+    unfoldings_are_one();
+    match unfold(alloc, program) {
+        Ok(unfolded) => Ok(unfolded),
+        Err(UnfoldError::NoMemory) => Err(Stop::NoMemory),
+        Err(UnfoldError::TooManyNodes) => Err(Stop::Replied {
+            reply: Reply::ManyNodes,
         }),
     }
 }

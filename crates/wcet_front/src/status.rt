@@ -16,6 +16,8 @@ pub const REFUSED_FACTS: u8 = 5;
 pub const REFUSED_MACHINE: u8 = 6;
 /// The certificate is refused.
 pub const REFUSED_CERTIFICATE: u8 = 7;
+/// The certificate is not valid.
+pub const REJECTED: u8 = 8;
 /// Memory is wanting.
 pub const STARVED: u8 = 9;
 /// Something is too large.

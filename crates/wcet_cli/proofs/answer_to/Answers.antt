@@ -1,7 +1,7 @@
-use Rattle.std.proofs.Common.{[], ◌∷◌, ◌≡◌, map, string_bytes, refl, subst, length, arith}
+use Rattle.std.proofs.Common.{map, string_bytes, refl, subst, arith}
 use Rattle.wcet_front.specs.FileLaws.{appends_nothing}
 use Rattle.wcet_front.specs.WritingLaws.{only_due}
-use Rattle.wcet_cli.specs.Commands.{Flat, Run, Migrate, IsForm, form_of, run_words, migrate_words}
+use Rattle.wcet_cli.specs.Commands.{Flat, Run, Migrate, Check, IsForm, form_of, run_words, migrate_words, check_words}
 use Rattle.wcet_cli.specs.Call.{NoForm}
 use Rattle.wcet_cli.proofs.Answering.{answers_only, starves_only, answers_form, starves_form, due_form, asked_form, leaves_all, leaves_but, not_nothing}
 use Rattle.wcet_cli.proofs.answer_to.Goals as goal
@@ -129,6 +129,44 @@ returns-in-Some-Migrate-clause-unasked g c unfit =
     let words = map string_bytes c.args.words.now in
     let form = Migrate (migrate_words c.in-Some-Migrate.migrate) in
     let is : IsForm words form = subst (λ x. IsForm words (form_of x)) c.in-Some-Migrate.field-0-is c.in-Some-Migrate.ensures in
+    absurd (unfit (record { form = form; is = is }))
+
+pub returns-in-Some-Check-clause-cause : goal.returns-in-Some-Check-clause-cause
+returns-in-Some-Check-clause-cause g c =
+    let words = map string_bytes c.args.words.now in
+    let form = Check (check_words c.in-Some-Check.check) in
+    let is : IsForm words form = subst (λ x. IsForm words (form_of x)) c.in-Some-Check.field-0-is c.in-Some-Check.ensures in
+    answers_form words form is c.check.result _ (answers_only _ (record { holds = c.check.ensures.holds; names = c.check.ensures.write_names; faults = c.check.ensures.write_faults }) _ _ c.check.result c.check.ensures.cause)
+
+pub returns-in-Some-Check-clause-starved : goal.returns-in-Some-Check-clause-starved
+returns-in-Some-Check-clause-starved g c =
+    let words = map string_bytes c.args.words.now in
+    let form = Check (check_words c.in-Some-Check.check) in
+    let is : IsForm words form = subst (λ x. IsForm words (form_of x)) c.in-Some-Check.field-0-is c.in-Some-Check.ensures in
+    starves_form words form is c.check.result _ (starves_only _ (record { holds = c.check.ensures.holds; names = c.check.ensures.write_names; faults = c.check.ensures.write_faults }) _ _ c.check.result c.check.ensures.starved)
+
+pub returns-in-Some-Check-clause-due : goal.returns-in-Some-Check-clause-due
+returns-in-Some-Check-clause-due g c contents due told d =
+    let words = map string_bytes c.args.words.now in
+    let form = Check (check_words c.in-Some-Check.check) in
+    let is : IsForm words form = subst (λ x. IsForm words (form_of x)) c.in-Some-Check.field-0-is c.in-Some-Check.ensures in
+    due_form words form is c.check.result contents due (λ cause free. c.check.ensures.due contents due told (only_due _ _ _ _ cause) free) d
+
+pub returns-in-Some-Check-clause-others : goal.returns-in-Some-Check-clause-others
+returns-in-Some-Check-clause-others g c names named = leaves_all _ _ names c.check.ensures.holds
+
+pub returns-in-Some-Check-clause-asked : goal.returns-in-Some-Check-clause-asked
+returns-in-Some-Check-clause-asked g c names named =
+    let words = map string_bytes c.args.words.now in
+    let form = Check (check_words c.in-Some-Check.check) in
+    let is : IsForm words form = subst (λ x. IsForm words (form_of x)) c.in-Some-Check.field-0-is c.in-Some-Check.ensures in
+    asked_form words names form _ _ is named (omega (arith, c.check.ensures.asked))
+
+pub returns-in-Some-Check-clause-unasked : goal.returns-in-Some-Check-clause-unasked
+returns-in-Some-Check-clause-unasked g c unfit =
+    let words = map string_bytes c.args.words.now in
+    let form = Check (check_words c.in-Some-Check.check) in
+    let is : IsForm words form = subst (λ x. IsForm words (form_of x)) c.in-Some-Check.field-0-is c.in-Some-Check.ensures in
     absurd (unfit (record { form = form; is = is }))
 
 pub returns-in-None-clause-cause : goal.returns-in-None-clause-cause

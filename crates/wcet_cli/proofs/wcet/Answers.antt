@@ -5,6 +5,7 @@ use Rattle.wcet_cli.proofs.Answering.{settled_on, starves_on}
 use Rattle.wcet_cli.proofs.Ends as ends
 use Rattle.wcet_cli.proofs.FaultFree.{no_fault}
 use Rattle.wcet_cli.proofs.Handed.{due_ends, must_be_three}
+use Rattle.wcet_cli.proofs.Headline.{headline}
 use Rattle.wcet_cli.proofs.wcet.Goals as goal
 
 pub returns-in-Ok-clause-answer : goal.returns-in-Ok-clause-answer
@@ -27,6 +28,11 @@ returns-in-Ok-clause-sink_fault g c = let said = c.say.ensures.answer in must_be
 pub returns-in-Ok-clause-answered : goal.returns-in-Ok-clause-answered
 returns-in-Ok-clause-answered g c =
     ends.at_zero c.worse_is_no_faster.ensures.completion c.m1_is_in_range.ensures _ _ _ _ _ _ _ (returns-in-Ok-clause-answer g c)
+
+pub returns-in-Ok-clause-headline : goal.returns-in-Ok-clause-headline
+returns-in-Ok-clause-headline g c w answered form =
+    headline (record { bounds = c.valid_bounds_hold.ensures; loaded = c.images_are_loaded.ensures; ranges = c.descriptions_are_in_range.ensures })
+    _ _ _ w _ _ form (returns-in-Ok-clause-answered g c answered)
 
 pub returns-in-Ok-clause-misused : goal.returns-in-Ok-clause-misused
 returns-in-Ok-clause-misused g c =
@@ -55,6 +61,10 @@ returns-in-Ok-clause-refused_machine g c =
 pub returns-in-Ok-clause-refused_certificate : goal.returns-in-Ok-clause-refused_certificate
 returns-in-Ok-clause-refused_certificate g c =
     ends.at_seven c.worse_is_no_faster.ensures.completion c.m1_is_in_range.ensures _ _ _ _ _ _ _ (returns-in-Ok-clause-answer g c)
+
+pub returns-in-Ok-clause-rejected : goal.returns-in-Ok-clause-rejected
+returns-in-Ok-clause-rejected g c =
+    ends.at_eight c.worse_is_no_faster.ensures.completion c.m1_is_in_range.ensures _ _ _ _ _ _ _ (returns-in-Ok-clause-answer g c)
 
 pub returns-in-Ok-clause-too_large : goal.returns-in-Ok-clause-too_large
 returns-in-Ok-clause-too_large g c =

@@ -13,7 +13,7 @@ ghost use Rattle.wcet_cli.specs.Commands.{migrate_words};
 ghost use Rattle.wcet_cli.specs.MigrateCommand.{IsMigration, MigrateDeed, MigrateDoes};
 
 use crate::command::MigrateCommand;
-use cert_text::{count_vectors, one_count, write_cert, written_tells};
+use cert_text::{one_count, write_counted, written_tells};
 use std::alloc::Global;
 use wcet_front::{Reply, Stop, certificate_in, read_file, write_file};
 use wx_base::{Store, Text};
@@ -76,8 +76,7 @@ fn migration_of(alloc: Global, source: &Text) -> Result<Migration, Stop>
     one_count();
     let certificate = certificate_in(alloc, source)?;
     let mut text = Vec::new(alloc);
-    write_cert(&mut text, &certificate)?;
-    let vectors = count_vectors(alloc, &certificate)?;
+    let vectors = write_counted(&mut text, &certificate)?;
     Ok(Migration {
         text,
         nodes: certificate.families.len() as u64,

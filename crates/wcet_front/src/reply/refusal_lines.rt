@@ -1,11 +1,12 @@
 //! Why an input is refused, as words of a reply's line: which input, the refusal's name, and behind it its fields.
 
 ghost use Rattle.std.specs.Prelude.{◌≡◌, ◌++◌, OnOk, codes};
-ghost use Rattle.wcet_front.specs.RefusalText.{image_refusal, facts_refusal, machine_refusal, start_refusal, flow_refusal, certificate_refusal};
+ghost use Rattle.wx_text.specs.Decimal.{decimal};
+ghost use Rattle.wcet_front.specs.RefusalText.{further, image_refusal, facts_refusal, machine_refusal, start_refusal, flow_refusal, certificate_refusal};
 
 use super::pieces::{
-    push, push_named, push_numbered, push_numbered_twice, push_placed, push_placed_word,
-    push_signed_field,
+    push, push_named, push_number_field, push_numbered, push_numbered_twice, push_placed,
+    push_placed_word, push_signed_field,
 };
 use cert_text::CertError;
 use elf_image::ElfError;
@@ -167,4 +168,18 @@ fn push_certificate_refusal(text: &mut Vec<u8>, refusal: &CertError) -> Result<(
         CertError::Number { line } => push_numbered(text, b"Number".as_slice(), *line),
         CertError::Order { line } => push_numbered(text, b"Order".as_slice(), *line),
     }
+}
+
+/// Appends that a certificate is not valid: the first rule that it breaks, the node and its vector.
+pub(crate) fn push_rejected(
+    text: &mut Vec<u8>,
+    rule: u64,
+    node: u64,
+    vector: u64,
+) -> Result<(), NoMemory>
+    ensures { OnOk result (text.new.items ≡ text.old.items
+        ++ (codes "rejected" ++ further (decimal rule) ++ further (decimal node) ++ further (decimal vector))) }
+{
+    push_numbered_twice(text, b"rejected".as_slice(), rule, node)?;
+    push_number_field(text, vector)
 }

@@ -2,4 +2,4 @@ use Rattle.cache_class.proofs.OneTable.{classes_one}
 use Rattle.cache_class.proofs.laws.classes_are_one.Goals as goal
 
 pub returns : goal.returns
-returns c = classes_one c.least_must_is_one.ensures c.least_may_is_one.ensures c.least_younger_is_one.ensures
+returns c = classes_one

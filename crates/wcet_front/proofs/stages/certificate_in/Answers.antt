@@ -1,4 +1,4 @@
-use Rattle.std.proofs.Common.{◌≡◌, sym, subst}
+use Rattle.std.proofs.Common.{sym, subst}
 use Rattle.cert_text.specs.Text.{IsTextOf, IsRefusal}
 use Rattle.wcet_front.proofs.NoCertificate.{refused_as}
 use Rattle.wcet_front.proofs.stages.certificate_in.Goals as goal

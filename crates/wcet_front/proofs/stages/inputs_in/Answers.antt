@@ -1,10 +1,9 @@
 -- The first text that is refused decides; what the texts before it tell is one.
-use Rattle.std.proofs.Common.{◌≡◌, ◌∙◌, sym, ap, subst}
+use Rattle.std.proofs.Common.{◌≡◌, sym, subst}
 use Rattle.wx_base.specs.declared.image.Image.{Image}
 use Rattle.ffx_facts.specs.Causes.{AreFactsOf}
-use Rattle.wcet_front.specs.declared.reply.Reply.{Reply}
 use Rattle.wcet_front.specs.Inputs.{IsFactsRefusal, IsMachineRefusal}
-use Rattle.wcet_front.specs.Stages.{Then, refused, passed, StopsWith}
+use Rattle.wcet_front.specs.Stages.{Then, refused, passed}
 use Rattle.wcet_front.specs.StageLaws.{handed_on, stop_is_due, after_stage}
 use Rattle.wcet_front.proofs.stages.inputs_in.Goals as goal
 

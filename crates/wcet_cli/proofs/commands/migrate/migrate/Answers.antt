@@ -1,7 +1,6 @@
 use Rattle.std.proofs.Common.{[], ◌∷◌, ◌≡◌, refl, sym, ap, subst}
 use Rattle.wcet_front.specs.declared.reply.Reply.TheVariants as reply
 use Rattle.wcet_front.specs.Reply.{IsNoFault}
-use Rattle.wcet_front.specs.Files.{unread}
 use Rattle.wcet_front.specs.FileLaws.{unread_is_due, reply_is_due, cut_after}
 use Rattle.wcet_front.specs.StageLaws.{handed_on, starved_on, starves_anyway}
 use Rattle.wcet_front.specs.Writing as writing

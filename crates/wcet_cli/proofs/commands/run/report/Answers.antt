@@ -8,7 +8,6 @@ use Rattle.wcet_front.specs.declared.reply.Reply.TheVariants as reply
 use Rattle.wcet_front.specs.Stages.{refused, passed}
 use Rattle.wcet_front.specs.StageLaws.{handed_on, starved, stop_is_due}
 use Rattle.wcet_cli.specs.Commands.{run_words}
-use Rattle.wcet_cli.specs.RunCommand.{report_in}
 use Rattle.wcet_cli.proofs.RunDue.{at_entry, at_start, at_program, reports}
 use Rattle.wcet_cli.proofs.commands.run.report.Goals as goal
 

@@ -1,0 +1,11 @@
+mod Along
+mod KeptLemmas
+mod KnownLemmas
+mod Lists
+mod NewerLemmas
+mod OverLemmas
+mod SearchLemmas
+mod StepLemmas
+mod StretchLemmas
+mod WalkLemmas
+mod WaysLemmas

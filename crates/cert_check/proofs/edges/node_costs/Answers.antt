@@ -1,0 +1,43 @@
+use Rattle.std.proofs.Common.{◌≡◌, List, sym, subst, ◌∙◌, arith}
+use Rattle.std.proofs.lemmas.Option.{same_Some}
+use Rattle.cert_text.specs.declared.certificate.CertVector.{CertVector}
+use Rattle.cert_rules.specs.Rules.{PaysEdges}
+use Rattle.cert_check.specs.Judging.{FamilyPays, IsSite, NamesPlace, VectorPaysEdges}
+use Rattle.cert_check.proofs.BreakLemmas.{handed_on}
+use Rattle.cert_check.proofs.NameLemmas.{names_alike}
+use Rattle.cert_check.proofs.PayLemmas.{family_small, edges_rule, rule_edges}
+use Rattle.cert_check.proofs.edges.node_costs.Goals as goal
+
+pub classes_at-requires : goal.classes_at-requires
+classes_at-requires c = omega (arith, c.requires.subject.classed.long, c.requires.node)
+
+pub family_of-family-requires : goal.family_of-family-requires
+family_of-family-requires c = omega (arith, c.requires.subject.shape.families, c.requires.node)
+
+pub family_costs-requires-clause-site : goal.family_costs-requires-clause-site
+family_costs-requires-clause-site c = rw c.as_slice.ensures.value (c.in_ok-charges.ensures c.classes_at.result.now c.classes_at.ensures)
+
+pub family_costs-requires-clause-small : goal.family_costs-requires-clause-small
+family_costs-requires-clause-small c = family_small c.args.subject.now.certificate.now c.args.node c.family_of-family.result.now c.requires.subject.small c.family_of-family.ensures
+
+pub returns-in_err-costs-clause-refused : goal.returns-in_err-costs-clause-refused
+returns-in_err-costs-clause-refused c =
+    let s = c.args.subject.now in
+    let family = c.family_of-family.result.now in
+    handed_on (NamesPlace (PaysEdges s.unfolded.now s.machine.now s.classes.now s.certificate.now c.args.node) 3 c.args.node) _ c.in_err-costs.field-0.0 c.from_residual-in_err-costs.ensures
+    (names_alike (FamilyPays (VectorPaysEdges s.unfolded.now s.machine.now s.classes.now s.certificate.now c.args.node) family)
+    (PaysEdges s.unfolded.now s.machine.now s.classes.now s.certificate.now c.args.node) 3 c.args.node
+    (edges_rule s.unfolded.now s.machine.now s.classes.now s.certificate.now c.args.node family c.family_of-family.ensures)
+    (rule_edges s.unfolded.now s.machine.now s.classes.now s.certificate.now c.args.node family c.family_of-family.ensures)
+    c.in_err-costs.field-0.0 c.in_err-costs.ensures.refused)
+
+pub returns-clause-costs : goal.returns-clause-costs
+returns-clause-costs c = λ others at.
+    let family = c.family_of-family.result.now in
+    let same : family ≡ others = same_Some family others (sym c.family_of-family.ensures ∙ at) in
+    rw (← same, c.new.ensures) c.in_ok-costs.ensures.costs
+
+pub returns-clause-pays : goal.returns-clause-pays
+returns-clause-pays c = λ place.
+    let s = c.args.subject.now in
+    edges_rule s.unfolded.now s.machine.now s.classes.now s.certificate.now c.args.node c.family_of-family.result.now c.family_of-family.ensures place (c.in_ok-costs.ensures.pays place)

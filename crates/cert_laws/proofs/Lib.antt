@@ -1,0 +1,5 @@
+pub mod SomeDue
+pub mod Pools
+pub mod OneText
+pub mod OneItem
+pub mod OneDue

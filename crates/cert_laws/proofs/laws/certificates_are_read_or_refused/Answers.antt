@@ -1,0 +1,5 @@
+use Rattle.cert_laws.proofs.SomeDue.{some_is_due}
+use Rattle.cert_laws.proofs.laws.certificates_are_read_or_refused.Goals as goal
+
+pub returns : goal.returns
+returns c = some_is_due

@@ -1,0 +1,15 @@
+mod ReadLemmas
+mod SumLemmas
+mod AmongLemmas
+mod ChargeLemmas
+mod TotalLemmas
+mod BoundLemmas
+mod MultiplierLemmas
+mod SetLemmas
+mod GrownLemmas
+mod BackLemmas
+mod KeyLemmas
+mod FoundLemmas
+mod CountLemmas
+mod ShapeLemmas
+mod StartLemmas

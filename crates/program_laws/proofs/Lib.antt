@@ -1,0 +1,9 @@
+pub mod Least
+pub mod Collected
+pub mod Words
+pub mod Flow
+pub mod Length
+pub mod Blocks
+pub mod Loops
+pub mod SomeDue
+pub mod OneFirst
