@@ -1,7 +1,8 @@
-//! Prints the ways of instructions, the programs of images with their unfoldings, and the loops of graphs that the lines of files name, each
-//! behind its line.
+//! Prints the ways of instructions, the programs of images with their unfoldings and the classes of their events, and the
+//! loops of graphs that the lines of files name, each behind its line.
 #![tactic(auto)]
 
+mod classes;
 mod graphs;
 mod images;
 mod parts;
@@ -30,6 +31,7 @@ impl Cases for FlowCases {
             "ways" => programs::push_ways(alloc, out, case),
             "program" => programs::push_program(alloc, out, case),
             "unfold" => unfoldings::push_unfolding(alloc, out, case),
+            "classes" => classes::push_classes(alloc, out, case),
             "nodes" => unfoldings::push_node_count(alloc, out, case),
             "share" => sharing::push_shared(alloc, out, case),
             "count" => programs::push_counts(alloc, out, case),
