@@ -2,7 +2,7 @@ use Rattle.std.proofs.Common.{◌≡◌, List, sym, subst, ◌∙◌, arith}
 use Rattle.std.proofs.lemmas.Option.{same_Some}
 use Rattle.cert_text.specs.declared.certificate.CertVector.{CertVector}
 use Rattle.cert_rules.specs.Rules.{PaysEdges}
-use Rattle.cert_check.specs.Judging.{FamilyPays, IsSite, NamesPlace, VectorPaysEdges}
+use Rattle.cert_check.specs.Judging.{FamilyPays, NamesPlace, VectorPaysEdges}
 use Rattle.cert_check.proofs.BreakLemmas.{handed_on}
 use Rattle.cert_check.proofs.NameLemmas.{names_alike}
 use Rattle.cert_check.proofs.PayLemmas.{family_small, edges_rule, rule_edges}
@@ -15,7 +15,12 @@ pub family_of-family-requires : goal.family_of-family-requires
 family_of-family-requires c = omega (arith, c.requires.subject.shape.families, c.requires.node)
 
 pub family_costs-requires-clause-site : goal.family_costs-requires-clause-site
-family_costs-requires-clause-site c = rw c.as_slice.ensures.value (c.in_ok-charges.ensures c.classes_at.result.now c.classes_at.ensures)
+family_costs-requires-clause-site c = c.in_ok-charged.ensures.site c.classes_at.result.now c.classes_at.ensures
+
+pub family_costs-requires-clause-right : goal.family_costs-requires-clause-right
+family_costs-requires-clause-right c =
+    let s = c.args.subject.now in
+    c.exits_stay.ensures.work c.args.table.now c.charged_at.new.table s.unfolded.now s.machine.now c.args.work.now c.charged_at.ensures.kept c.requires.right
 
 pub family_costs-requires-clause-small : goal.family_costs-requires-clause-small
 family_costs-requires-clause-small c = family_small c.args.subject.now.certificate.now c.args.node c.family_of-family.result.now c.requires.subject.small c.family_of-family.ensures
