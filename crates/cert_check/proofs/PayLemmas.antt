@@ -81,7 +81,7 @@ module _ (nodes : List Node) (u : Unfolded) (m : Machine) (classes : Classes) (c
         (stands : slice_get u.edges number ≡ Some edge) (from : edge.from ≡ node) (target : slice_get c.families edge.to ≡ Some family)
         (enters : cost_in ≡ entering c u number) (returns : cost_back ≡ returning c u number)
         (leaves : IsNodeLeaving nodes u m node v.slots edge.taken leaving) where
-      exit_of : Block → Combination → Exit
+      abbrev exit_of : Block → Combination → Exit
       exit_of block f = exit_from m v.slots.slots (entries_of block f) edge.taken
 
       into_on : (block : Block) (others : List Class) (f : Combination) → IsClassed u classes node block others

@@ -37,11 +37,7 @@ fn charges_at(alloc: Global, subject: &Subject, node: u32) -> Result<Vec<u64>, N
 }
 
 /// What the misses of a node's block are charged, in cycles, as a diagram over the block's events.
-pub(crate) fn charged_at(
-    table: &mut Table,
-    subject: &Subject,
-    node: u32,
-) -> Result<Dd, NoMemory>
+pub(crate) fn charged_at(table: &mut Table, subject: &Subject, node: u32) -> Result<Dd, NoMemory>
     requires subject { let s = subject.now in
         IsSubject s.unfolded.now s.machine.now s.classes.now s.certificate.now }
     requires charges { HasCharges subject.now.charges.now subject.now.certificate.now.charges }

@@ -6,6 +6,7 @@ use Rattle.cert_check.specs.Judging.{FamilyPays, NamesPlace, VectorPaysFinish}
 use Rattle.cert_check.proofs.BreakLemmas.{handed_on}
 use Rattle.cert_check.proofs.NameLemmas.{names_alike}
 use Rattle.cert_check.proofs.PayLemmas.{family_small, finish_rule, rule_finish}
+use Rattle.cert_check.proofs.StayLemmas.{keeps_twice}
 use Rattle.cert_check.proofs.finishes.node_finishes.Goals as goal
 
 pub classes_at-requires : goal.classes_at-requires
@@ -46,3 +47,9 @@ pub returns-clause-pays : goal.returns-clause-pays
 returns-clause-pays c = λ place.
     let s = c.args.subject.now in
     finish_rule s.unfolded.now s.machine.now s.classes.now s.certificate.now c.args.node c.family_of-family.result.now c.family_of-family.ensures place (c.in_ok-finishes.ensures.pays place)
+
+pub returns-in_err-finishes-clause-kept : goal.returns-in_err-finishes-clause-kept
+returns-in_err-finishes-clause-kept c = keeps_twice c.args.table.now c.charged_at.new.table c.family_finishes.new.table c.charged_at.ensures.kept c.family_finishes.ensures.kept
+
+pub returns-clause-kept : goal.returns-clause-kept
+returns-clause-kept c = keeps_twice c.args.table.now c.charged_at.new.table c.family_finishes.new.table c.charged_at.ensures.kept c.family_finishes.ensures.kept
