@@ -1,5 +1,5 @@
 -- What the misses in a block are charged: by the list of a certificate, and by what each event is charged.
-use Rattle.std.proofs.Common.{◌≡◌, ℕ, zero, suc, ◌+◌, ◌<◌, ◌≤◌, ◌^◌, ◌&&◌, ◌==◌, Bool, true, false, cond, if◌then◌else◌, List, [], ◌∷◌, length, map, get_or, slice_get, slice_index, Option, Some, Result, Ok, Err, IfOk, All, AllPairs, refl, sym, ap, subst, ◌∙◌, inl, inr, arith}
+use Rattle.std.proofs.Common.{◌≡◌, ℕ, suc, ◌+◌, ◌<◌, ◌≤◌, ◌&&◌, ◌==◌, Bool, true, false, cond, if◌then◌else◌, List, [], ◌∷◌, length, map, get_or, slice_get, slice_index, Option, Some, Result, Ok, Err, IfOk, All, AllPairs, refl, sym, ap, subst, ◌∙◌, inl, inr, arith}
 use Rattle.std.specs.List.{sum_by}
 use Rattle.std.specs.Option.{option_map_or}
 use Rattle.std.proofs.lemmas.Bool.{false≢true, cases_lt, eqb-true}
@@ -29,7 +29,7 @@ use Rattle.cache_class.specs.Accesses.{slots_of}
 use Rattle.cache_class.specs.Groups.{IsGroupBefore, IsScopeBefore}
 use Rattle.cert_text.specs.declared.certificate.Charge.{Charge}
 use Rattle.cert_text.specs.declared.certificate.Certificate.{Certificate}
-use Rattle.cert_rules.specs.Prices.{same_scope, charge_of, slot_charge, missed, missed_from}
+use Rattle.cert_rules.specs.Prices.{same_scope, charge_of, slot_charge, missed_from}
 use Rattle.cert_rules.specs.Rules.{group_of, greatest_number}
 use Rattle.cert_prices.specs.Keys.{AreApart, AreEventCharges, charge_in, event_charge}
 use Rattle.cert_judge.specs.Laws.{AreCharges, MissesAreCharged, missed_from as missed_by}

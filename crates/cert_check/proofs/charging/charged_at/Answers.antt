@@ -1,7 +1,5 @@
-use Rattle.std.proofs.Common.{◌≡◌, List, sym, subst, ◌∙◌, arith}
+use Rattle.std.proofs.Common.{◌≡◌, sym, ◌∙◌, arith}
 use Rattle.std.proofs.lemmas.Option.{same_Some}
-use Rattle.cache_class.specs.declared.class.Class.{Class}
-use Rattle.cert_check.specs.Judging.{IsSite}
 use Rattle.cert_check.proofs.ChargeLemmas.{site_is}
 use Rattle.cert_check.proofs.charging.charged_at.Goals as goal
 

@@ -1,4 +1,4 @@
-use Rattle.std.proofs.Common.{Bool, IsTrue, ◌↔◌}
+use Rattle.std.proofs.Common.{IsTrue, ◌↔◌}
 use Rattle.std.specs.Prelude.{Decides}
 use Rattle.cert_judge.specs.Offers.{offered}
 use Rattle.cert_judge.specs.Payments.{PaysForEdge, PaysInto}

@@ -1,7 +1,6 @@
-use Rattle.std.proofs.Common.{◌≡◌, ℕ, ◌+◌, ◌<◌, List, [], length, get_or, slice_get, Some, refl, sym, ap, subst, arith}
+use Rattle.std.proofs.Common.{ℕ, List, [], length, get_or, refl, sym, ap, subst, arith}
 use Rattle.std.proofs.lemmas.Option.{slice_get-get_or}
 use Rattle.xdd_table.specs.declared.node.Dd.{Dd}
-use Rattle.xdd_table.specs.declared.node.Node.{Node}
 use Rattle.cert_text.specs.declared.certificate.CertVector.{CertVector}
 use Rattle.cert_check.specs.Judging.{VectorPaysFinish}
 use Rattle.cert_check.specs.Places.{Along, IsFinish}

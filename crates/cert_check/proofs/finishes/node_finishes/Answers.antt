@@ -1,6 +1,5 @@
-use Rattle.std.proofs.Common.{◌≡◌, List, sym, subst, ◌∙◌, arith}
+use Rattle.std.proofs.Common.{◌≡◌, sym, ◌∙◌, arith}
 use Rattle.std.proofs.lemmas.Option.{same_Some}
-use Rattle.cert_text.specs.declared.certificate.CertVector.{CertVector}
 use Rattle.cert_rules.specs.Rules.{PaysFinish}
 use Rattle.cert_check.specs.Judging.{FamilyPays, NamesPlace, VectorPaysFinish}
 use Rattle.cert_check.proofs.BreakLemmas.{handed_on}

@@ -1,4 +1,4 @@
-use Rattle.std.proofs.Common.{◌+◌, arith}
+use Rattle.std.proofs.Common.{arith}
 use Rattle.xdd_table.specs.Diagram.{time}
 use Rattle.xdd_ops.specs.Pairs.{IsPairOf}
 use Rattle.cert_judge.specs.Payments.{PaysInto}

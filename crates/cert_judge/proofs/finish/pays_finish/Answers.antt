@@ -1,4 +1,4 @@
-use Rattle.std.proofs.Common.{◌≡◌, ◌+◌, ◌↔◌, ◌-◌, ◌≤◌, Bool, IsTrue, arith}
+use Rattle.std.proofs.Common.{◌+◌, ◌↔◌, ◌-◌, ◌≤◌, Bool, IsTrue, arith}
 use Rattle.xdd_table.specs.Diagram.{Combination, time}
 use Rattle.cert_judge.specs.Payments.{PaysForFinish}
 use Rattle.cert_judge.proofs.KeepLemmas.{keeps_twice}

@@ -1,4 +1,4 @@
-use Rattle.std.proofs.Common.{◌≡◌, ℕ, ◌+◌, ◌≤◌, ◌<◌, ◌^◌, List, length, drop, arith, length-drop}
+use Rattle.std.proofs.Common.{ℕ, ◌+◌, ◌≤◌, ◌^◌, List, length, drop, arith, length-drop}
 use Rattle.cache_class.specs.declared.class.Class.{Class}
 use Rattle.cert_judge.proofs.KeepLemmas.{keeps_twice}
 use Rattle.cert_judge.proofs.OfferLemmas.{charged_fits, taken_at_most}

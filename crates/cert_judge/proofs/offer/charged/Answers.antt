@@ -1,4 +1,3 @@
-use Rattle.std.proofs.Common.{◌≡◌, ℕ, Result, Ok, Err, IfOk, sym, ◌∙◌}
 use Rattle.cert_judge.proofs.OfferLemmas.{charged_is}
 use Rattle.cert_judge.proofs.offer.charged.Goals as goal
 

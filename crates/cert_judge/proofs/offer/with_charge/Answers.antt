@@ -1,4 +1,4 @@
-use Rattle.std.proofs.Common.{◌≡◌, ◌+◌, ◌<◌, ◌≤◌, ◌^◌, ◌∙◌, arith}
+use Rattle.std.proofs.Common.{arith}
 use Rattle.cert_judge.proofs.KeepLemmas.{keeps_self, keeps_twice}
 use Rattle.cert_judge.proofs.OfferLemmas.{if_at_most, if_nothing}
 use Rattle.cert_judge.proofs.offer.with_charge.Goals as goal
