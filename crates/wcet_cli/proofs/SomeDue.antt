@@ -223,25 +223,3 @@ some_is_due contents words other all =
     (λ (fits : HasName words). some_flat contents words fits.0 fits.1 all)
     (λ (none : HasName words → ⊥). (reply.Usage, record { cause = by_none (no_form words other none) refl; free = tt }))
     (form words)
-
--- and no other
-pub one_is_due : (contents : Contents) (words : List (List ℕ)) (r s : Reply) → IsOther words → IsDue contents words r → IsDue contents words s → r ≡ s
-one_is_due contents words r s other_words p q = by_cause p.cause q.cause
-  where
-    flat_one : (name : List ℕ) → ReadsAndReplies (reads_of contents) (name ∷ []) FlatReplies r → ReadsAndReplies (reads_of contents) (name ∷ []) FlatReplies s → r ≡ s
-    flat_one name (unread f) other = unread_is_due contents _ _ _ (name ∷ []) FlatReplies r s refl f other p.free q.free
-    flat_one name (replied [] are cause) other = absurd cause
-    flat_one name (replied (bytes ∷ []) are cause) other =
-        one_flat_reply bytes r s cause (reply_is_due contents _ _ _ (name ∷ []) (bytes ∷ []) FlatReplies s refl are other q.free)
-    flat_one name (replied (bytes ∷ more ∷ have) are cause) other = absurd cause
-
-    by_command : (form : Form) → IsForm words form → ReadsAndReplies (reads_of contents) (files_of form) (RepliesOf (Does form)) r → ReadsAndReplies (reads_of contents) (files_of form) (RepliesOf (Does form)) s → r ≡ s
-    by_command (Flat name) is cause other = flat_one name (only_due _ _ FlatReplies r cause) (only_due _ _ FlatReplies s other)
-    by_command (Run w) is cause other = absurd (other_words.no_run w is)
-    by_command (Migrate w) is cause other = absurd (other_words.no_migrate w is)
-    by_command (Check w) is cause other = absurd (other_words.no_check w is)
-
-    by_cause : IsCalledFor contents words r → IsCalledFor contents words s → r ≡ s
-    by_cause (by_none unfit e) (by_none unfit' f) = e ∙ sym f
-    by_cause (by_none unfit e) (by_form form is cause) = absurd (unfit (record { form = form; is = is }))
-    by_cause (by_form form is cause) other = by_command form is cause (called_of contents words form s is other)
