@@ -1,24 +1,18 @@
 -- The contents of files call for one reply: what each stage gives is one thing, its refusal is one, and it does not do both.
-use Rattle.std.proofs.Common.{◌≡◌, ◌≢◌, ⊎_elim, ℕ, List, [], ◌∷◌, length, Option, Some, None, refl, sym, ap, ◌∙◌, subst}
-use Rattle.wx_base.specs.declared.facts.Facts.{Facts}
+use Rattle.std.proofs.Common.{◌≡◌, ℕ, List, length, Option, Some, None, sym, ap, ◌∙◌, subst}
 use Rattle.wx_base.specs.declared.image.Image.{Image}
 use Rattle.wx_base.specs.declared.machine.Machine.{Machine}
 use Rattle.wx_base.specs.Run as runs
 use Rattle.wx_base.specs.Symbols.{symbol_value}
 use Rattle.wx_host.specs.MemStore.{HeldFile}
-use Rattle.elf_image.specs.Causes as elf_causes
 use Rattle.elf_image.specs.Laws as elf
-use Rattle.elf_image.specs.Meaning.{image_of}
 use Rattle.ffx_facts.specs.Causes as ffx_causes
 use Rattle.ffx_facts.specs.Laws as ffx
-use Rattle.machine_desc.specs.Causes as machine_causes
 use Rattle.machine_desc.specs.Laws as machine_desc
 use Rattle.flow_graph.specs.declared.program.Program.{Program}
 use Rattle.flow_graph.specs.Laws.{ProgramIsOne}
-use Rattle.flow_graph.specs.Program.{rules_of}
 use Rattle.flow_ctx.specs.Laws.{UnfoldingIsOne}
 use Rattle.cache_class.specs.Laws.{ClassesAreOne}
-use Rattle.start_file.specs.StartState.{start_of}
 use Rattle.cert_text.specs.declared.certificate.Certificate.{Certificate}
 use Rattle.cert_text.specs.Laws.{CountIsOne}
 use Rattle.cert_text.specs.Pool.{HasVectors}

@@ -5,7 +5,7 @@ use Rattle.wcet_front.specs.declared.reply.Reply.{Reply}
 use Rattle.wcet_front.specs.Reply.{IsNoFault}
 use Rattle.wcet_front.specs.Files.{reads_of, ReadsAndReplies, unread, replied}
 use Rattle.wcet_front.specs.FileLaws.{unread_is_due, reply_is_due}
-use Rattle.wcet_front.specs.Writing.{OnlyReplies, RepliesOf}
+use Rattle.wcet_front.specs.Writing.{RepliesOf}
 use Rattle.wcet_cli.specs.Words.{CheckWords, RunWords}
 use Rattle.wcet_cli.specs.CheckCommand.{CheckReplies}
 use Rattle.wcet_cli.specs.FlatCommand.{FlatReplies}

@@ -15,16 +15,12 @@ use Rattle.wcet_front.specs.declared.reply.Reply.{Reply}
 use Rattle.wcet_front.specs.declared.reply.Reply.TheVariants as reply
 use Rattle.wcet_front.specs.Reply.{IsNoFault}
 use Rattle.wcet_front.specs.Files.{reads_of, missing, long, IsComeTo, AreRead, ReadsAndReplies, unread, replied}
-use Rattle.wcet_front.specs.FileLaws.{unread_is_due, reply_is_due}
-use Rattle.wcet_front.specs.Writing.{RepliesOf}
-use Rattle.wcet_front.specs.WritingLaws.{only_due, due_only}
+use Rattle.wcet_front.specs.WritingLaws.{due_only}
 use Rattle.wcet_cli.specs.Straight.{is_plain_alu, origin, IsPlain, IsLast, bytes_of, address_behind, IsProgram, IsCutOff, IsForeign, bound_of}
 use Rattle.wcet_cli.specs.Words.{IsFlat}
 use Rattle.wcet_cli.specs.FlatCommand.{FlatReplies, bound, leaves_code, unsupported}
-use Rattle.wcet_cli.specs.Commands.{Form, Flat, Run, Migrate, Check, IsForm, FitsForm, files_of, Does}
-use Rattle.wcet_cli.specs.Call.{IsOther, IsCalledFor, by_none, by_form, AreBytes, IsDue}
-use Rattle.wcet_cli.proofs.OneForm.{called_of}
-use Rattle.wcet_cli.proofs.Reading.{one_flat_reply}
+use Rattle.wcet_cli.specs.Commands.{Form, Flat, Run, Migrate, Check, IsForm, FitsForm}
+use Rattle.wcet_cli.specs.Call.{IsOther, by_none, by_form, AreBytes, IsDue}
 
 -- how the words of some bytes go, from a number of words on
 data Course (bytes : List ℕ) : Type 0 where
