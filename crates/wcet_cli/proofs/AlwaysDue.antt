@@ -1,65 +1,28 @@
--- Some reply is due, whatever the words but those of `check`, and whatever a store holds. What is shown is that it cannot be otherwise, so each step may go on as
+-- Some reply is due, whatever the words and whatever a store holds. What is shown is that it cannot be otherwise, so each step may go on as
 -- if every statement held or did not.
-use Rattle.std.proofs.Common.{◌≡◌, ◌⊎◌, inl, inr, ⊎_elim, ℕ, ◌<◌, ◌≤◌, ◌^◌, List, [], ◌∷◌, ◌++◌, length, take, drop, Option, Some, None, refl, sym, ap, ◌∙◌, subst, arith, length-drop}
+use Rattle.std.proofs.Common.{◌≡◌, ⊎_elim, ℕ, ◌<◌, ◌≤◌, ◌^◌, List, [], ◌∷◌, length, take, drop, Option, Some, None, refl, sym, ap, ◌∙◌, arith, length-drop}
 use Rattle.std.specs.List.{AllByRecursion}
 use Rattle.std.proofs.lemmas.Bool.{cases_lt}
 use Rattle.std.proofs.lemmas.List.{take-append-drop, length-take-le}
-use Rattle.wx_base.specs.declared.facts.Facts.{Facts}
-use Rattle.wx_base.specs.declared.image.Image.{Image}
-use Rattle.wx_base.specs.declared.machine.Machine.{Machine}
-use Rattle.wx_base.specs.Run as runs
-use Rattle.wx_base.specs.Symbols.{symbol_value}
 use Rattle.wx_host.specs.Outside.{Contents, longest_file}
 use Rattle.wx_host.specs.MemStore.{HeldFile}
-use Rattle.elf_image.specs.Laws as elf
-use Rattle.elf_image.specs.Meaning.{image_of}
-use Rattle.ffx_facts.specs.Laws as ffx
-use Rattle.machine_desc.specs.Laws as machine_desc
-use Rattle.flow_graph.specs.declared.program.Program.{Program}
 use Rattle.flow_graph.specs.Program.{rules_of}
-use Rattle.start_file.specs.declared.start_error.StartError.{StartError}
-use Rattle.start_file.specs.declared.start_error.StartError.TheVariants as start_error
-use Rattle.start_file.specs.StartRefusal as start
-use Rattle.start_file.specs.StartState.{start_of}
 use Rattle.cert_text.specs.declared.certificate.Certificate.{Certificate}
-use Rattle.cert_text.specs.declared.cert_error.CertError.{CertError}
-use Rattle.cert_text.specs.declared.cert_error.CertError.TheVariants as cert_error
-use Rattle.cert_text.specs.Laws.{ReadIsWritable, WrittenTells}
-use Rattle.cert_text.specs.Text as cert
 use Rattle.cert_text.specs.Text.{IsTextOf}
-use Rattle.cert_laws.specs.Laws as certificate_laws
-use Rattle.start_laws.specs.Laws as start_laws
-use Rattle.flow_laws.specs.Programs.{EndsInMemory}
-use Rattle.program_laws.specs.Laws.{SoundOrRefused}
 use Rattle.wcet_front.specs.declared.inputs.InputTexts.{InputTexts}
-use Rattle.wcet_front.specs.declared.inputs.Inputs.{Inputs}
 use Rattle.wcet_front.specs.declared.reply.Reply.{Reply}
 use Rattle.wcet_front.specs.declared.reply.Reply.TheVariants as reply
 use Rattle.wcet_front.specs.Reply.{IsNoFault}
-use Rattle.wcet_front.specs.Files.{reads_of, missing, long, AreContents, AreRead, IsFirstUnread, ReadsAndReplies, unread, replied}
-use Rattle.wcet_front.specs.Inputs.{AreTold, IsInputsRefusal, IsEntryOf, IsEntryRefusal, IsStartTold, IsStartRefusal, IsSoundProgram, IsFlowRefusal, IsCertRefusal}
-use Rattle.wcet_front.specs.Stages.{Then, refused, passed}
-use Rattle.wcet_front.specs.Writing.{Deed, RepliesOf, OnlyReplies, file_of}
-use Rattle.wcet_cli.specs.Words.{RunWords, IsRun, MigrateWords, IsMigrate}
+use Rattle.wcet_front.specs.Files.{reads_of, missing, long, AreRead, IsFirstUnread, unread, replied}
+use Rattle.wcet_front.specs.Writing.{RepliesOf, OnlyReplies, file_of}
+use Rattle.wcet_cli.specs.Words.{RunWords, IsRun, MigrateWords, IsMigrate, CheckWords, IsCheck}
+use Rattle.wcet_cli.specs.CheckCommand.{CheckReply, CheckReplies, check_files}
 use Rattle.wcet_cli.specs.MigrateCommand.{MigrateDoes, migrates, refuses}
 use Rattle.wcet_cli.specs.RunCommand.{RunReply, RunReplies, report_in, run_files}
 use Rattle.wcet_cli.specs.Commands.{Form, Flat, Run, Migrate, Check, IsForm, FitsForm, files_of, Does}
-use Rattle.wcet_cli.specs.Call.{AreBytes, IsNoCheck, IsCalledFor, by_none, by_form, IsDue}
-use Rattle.wcet_cli.proofs.ImageRanges.{entry_small, holds_bytes, value_small}
+use Rattle.wcet_cli.specs.Call.{AreBytes, by_none, by_form, IsDue}
+use Rattle.wcet_cli.proofs.EachStage.{AreKnown, certificate_never_none, entry_never_none, inputs_never_none, never_then, no_verdict, program_never_none, start_never_none, unfolding_never_none}
 use Rattle.wcet_cli.proofs.SomeDue.{some_flat}
-
--- what the crates below say of all texts
-pub record AreKnown : Type 0 where
-  pub images : elf.PassesOrRefused
-  pub loaded : elf.ImagesAreLoaded
-  pub facts : ffx.StatedOrRefused
-  pub machines : machine_desc.DescribedOrRefused
-  pub starts : start_laws.ReadOrRefused
-  pub programs : SoundOrRefused
-  pub certificates : certificate_laws.ReadOrRefused
-  pub texts : certificate_laws.HasText
-  pub writable : ReadIsWritable
-  pub tells : WrittenTells
 
 -- ---- files
 -- all files are read, or the first that is not calls for a reply
@@ -128,66 +91,31 @@ module _ (contents : Contents) where
 
 -- ---- run
 module _ (known : AreKnown) (w : RunWords) (texts : InputTexts) (text : List ℕ) (bytes : AllByRecursion (λ byte. byte < 256) texts.image) (stop : (said : Reply) → RunReply w texts text said → IsNoFault said → ⊥) where
-  module _ (inputs : Inputs) (told : AreTold texts inputs) (entry : ℕ) (entered : IsEntryOf inputs.image w.entry entry) where
-    module _ (begin : runs.Start) (begins : IsStartTold inputs.image inputs.machine entry text begin) where
-      no_report : (program : Program) → IsSoundProgram inputs entry program → ⊥
-      no_report program sound =
-          stop (reply.Ran (report_in inputs (rules_of inputs.facts program) entry begin w.steps)) (passed inputs told (passed entry entered (passed begin begins (passed program sound refl)))) tt
+  pub no_report : ⊥
+  no_report =
+      never_then stop (inputs_never_none known texts)
+      (λ inputs told none.
+      never_then none (entry_never_none inputs.image w.entry)
+      (λ entry entered none.
+      never_then none (start_never_none known texts inputs told bytes w.entry entry entered text)
+      (λ begin begins none.
+      never_then none (program_never_none known texts inputs told entry)
+      (λ program sound none. none (reply.Ran (report_in inputs (rules_of inputs.facts program) entry begin w.steps)) refl tt))))
 
-      no_program : ⊥
-      no_program =
-          known.programs inputs.image inputs.facts entry inputs.machine
-          (subst EndsInMemory (sym told.image.read) (record { each = λ k d inside. ((known.loaded texts.image told.image.faultless).within k d inside).in_space }))
-          no_report
-          (λ e first. stop (reply.BadFlow e) (passed inputs told (passed entry entered (passed begin begins (refused (e, first, refl))))) tt)
-
-    -- the entry is a word
-    entry_is_word : (named : Option (List ℕ)) → IsEntryOf inputs.image named entry → entry < 2 ^ 32
-    entry_is_word None e =
-        subst (λ n. n < 2 ^ 32) (sym (e ∙ ap (λ (i : Image). i.entry) told.image.read)) (entry_small texts.image bytes)
-    entry_is_word (Some name) e = value_small texts.image bytes name entry (ap (λ (i : Image). symbol_value i.symbols name) (sym told.image.read) ∙ e)
-
-    no_start : ⊥
-    no_start =
-        known.starts inputs.image inputs.machine entry text
-        (subst start_laws.HoldsBytes (sym told.image.read) (holds_bytes texts.image bytes)) (entry_is_word w.entry entered)
-        (λ start is.
-        no_program (start_of inputs.image start)
-        (record { read = start; told = is.told; registers = is.registers; cache = is.cache; is = refl; starts = is.starts }))
-        (λ e refusal. by e refusal)
-      where
-        by : (e : StartError) → start.IsRefusal inputs.image inputs.machine.shape text e → e ≡ start_error.NoMemory
-        by start_error.NoMemory refusal = refl
-        by (start_error.Line line) refusal =
-            absurd (stop (reply.BadStart (start_error.Line line)) (passed inputs told (passed entry entered (refused (start_error.Line line, refusal, (λ e. cc), refl)))) tt)
-        by (start_error.NotACache set) refusal =
-            absurd (stop (reply.BadStart (start_error.NotACache set)) (passed inputs told (passed entry entered (refused (start_error.NotACache set, refusal, (λ e. cc), refl)))) tt)
-
-  no_entry : (inputs : Inputs) → AreTold texts inputs → (named : Option (List ℕ)) → w.entry ≡ named → ⊥
-  no_entry inputs told None e = no_start inputs told inputs.image.entry (subst (λ n. IsEntryOf inputs.image n inputs.image.entry) (sym e) refl)
-  no_entry inputs told (Some name) e = by (symbol_value inputs.image.symbols name) refl
-    where
-      by : (o : Option ℕ) → symbol_value inputs.image.symbols name ≡ o → ⊥
-      by (Some entry) is = no_start inputs told entry (subst (λ n. IsEntryOf inputs.image n entry) (sym e) is)
-      by None is = stop (reply.NoEntry name) (passed inputs told (refused (name, e, is, refl))) tt
-
-  pub no_reply : ⊥
-  no_reply =
-      ⊎_elim
-      (λ passes.
-      let image = image_of texts.image in
-      ⊎_elim
-      (λ facts.
-      ⊎_elim
-      (λ machine.
-      no_entry (record { image = image; facts = facts.0; machine = machine.0 })
-      (record { image = record { faultless = passes; read = refl }; facts = facts.1; machine = machine.1 }) w.entry refl)
-      (λ cause. stop (reply.BadMachine cause.0) (refused (passed image (record { faultless = passes; read = refl }) (passed facts.0 facts.1 (cause.0, cause.1, refl)))) tt)
-      (known.machines texts.machine))
-      (λ cause. stop (reply.BadFacts cause.0) (refused (passed image (record { faultless = passes; read = refl }) (refused (cause.0, cause.1, refl)))) tt)
-      (known.facts texts.facts image.symbols))
-      (λ cause. stop (reply.BadImage cause.0) (refused (refused (cause.0, cause.1, refl))) tt)
-      (known.images texts.image)
+-- ---- check
+module _ (known : AreKnown) (w : CheckWords) (texts : InputTexts) (certificate : List ℕ) (stop : (said : Reply) → CheckReply w texts certificate said → IsNoFault said → ⊥) where
+  pub no_judgement : ⊥
+  no_judgement =
+      never_then stop (inputs_never_none known texts)
+      (λ inputs told none.
+      never_then none (certificate_never_none known certificate)
+      (λ c read none.
+      never_then none (entry_never_none inputs.image w.entry)
+      (λ entry entered none.
+      never_then none (program_never_none known texts inputs told entry)
+      (λ program sound none.
+      never_then none (unfolding_never_none known inputs entry program sound)
+      (λ u small none. no_verdict known u inputs.machine c none)))))
 
 -- ---- migrate
 module _ (known : AreKnown) (w : MigrateWords) (bytes : List ℕ) (short : length bytes ≤ longest_file) (stop : (files : List HeldFile) (said : Reply) → MigrateDoes w (bytes ∷ []) files said → IsNoFault said → ⊥) where
@@ -202,18 +130,11 @@ module _ (known : AreKnown) (w : MigrateWords) (bytes : List ℕ) (short : lengt
       few : {n : ℕ} → n ≤ longest_file → n < 2 ^ 32
       few h = omega (arith, h)
 
-  no_refusal : (e : CertError) → cert.IsRefusal bytes e → e ≡ cert_error.NoMemory
-  no_refusal cert_error.NoMemory refusal = refl
-  no_refusal (cert_error.Syntax at) refusal = absurd (stop [] (reply.BadCertificate (cert_error.Syntax at)) (refuses (cert_error.Syntax at, refusal, (λ e. cc), refl) refl) tt)
-  no_refusal cert_error.NoEnd refusal = absurd (stop [] (reply.BadCertificate cert_error.NoEnd) (refuses (cert_error.NoEnd, refusal, (λ e. cc), refl) refl) tt)
-  no_refusal (cert_error.Number line) refusal = absurd (stop [] (reply.BadCertificate (cert_error.Number line)) (refuses (cert_error.Number line, refusal, (λ e. cc), refl) refl) tt)
-  no_refusal (cert_error.Order line) refusal = absurd (stop [] (reply.BadCertificate (cert_error.Order line)) (refuses (cert_error.Order line, refusal, (λ e. cc), refl) refl) tt)
-
   pub no_deed : ⊥
-  no_deed = known.certificates bytes no_certificate no_refusal
+  no_deed = (certificate_never_none known bytes).some no_certificate (λ said refusal free. stop [] said (refuses refusal refl) free)
 
 -- ---- all words
-module _ (known : AreKnown) (contents : Contents) (words : List (List ℕ)) (other : IsNoCheck words) (small : AreBytes contents) (none : (due : Reply) → IsDue contents words due → ⊥) where
+module _ (known : AreKnown) (contents : Contents) (words : List (List ℕ)) (small : AreBytes contents) (none : (due : Reply) → IsDue contents words due → ⊥) where
   -- the reply to what the files of a command hold, or to the first of them that is not read
   answered : (form : Form) → IsForm words form → ((have : List (List ℕ)) → AreRead (reads_of contents) (files_of form) have → ((said : Reply) → RepliesOf (Does form) have said → IsNoFault said → ⊥) → ⊥) → ⊥
   answered form is go = by (reading contents (files_of form))
@@ -227,7 +148,7 @@ module _ (known : AreKnown) (contents : Contents) (words : List (List ℕ)) (oth
     where
       by : (have : List (List ℕ)) → AreRead (reads_of contents) (run_files w) have → ((said : Reply) → RepliesOf (OnlyReplies (RunReplies w)) have said → IsNoFault said → ⊥) → ⊥
       by (image ∷ facts ∷ machine ∷ start ∷ []) are stop =
-          no_reply known w (record { image = image; facts = facts; machine = machine }) start (small w.image image are.whole.0.1)
+          no_report known w (record { image = image; facts = facts; machine = machine }) start (small w.image image are.whole.0.1)
           (λ said says free. stop said (record { files = []; deed = record { none = refl; says = says } }) free)
       by [] are stop = absurd are.whole
       by (a ∷ []) are stop = absurd are.whole.1
@@ -243,6 +164,19 @@ module _ (known : AreKnown) (contents : Contents) (words : List (List ℕ)) (oth
       by [] are stop = absurd are.whole
       by (a ∷ b ∷ have) are stop = absurd are.whole.1
 
+  no_check : (w : CheckWords) → IsCheck words w → ⊥
+  no_check w is = answered (Check w) is by
+    where
+      by : (have : List (List ℕ)) → AreRead (reads_of contents) (check_files w) have → ((said : Reply) → RepliesOf (OnlyReplies (CheckReplies w)) have said → IsNoFault said → ⊥) → ⊥
+      by (image ∷ facts ∷ machine ∷ certificate ∷ []) are stop =
+          no_judgement known w (record { image = image; facts = facts; machine = machine }) certificate
+          (λ said says free. stop said (record { files = []; deed = record { none = refl; says = says } }) free)
+      by [] are stop = absurd are.whole
+      by (a ∷ []) are stop = absurd are.whole.1
+      by (a ∷ b ∷ []) are stop = absurd are.whole.1.1
+      by (a ∷ b ∷ c ∷ []) are stop = absurd are.whole.1.1.1
+      by (a ∷ b ∷ c ∷ d ∷ e ∷ have) are stop = absurd are.whole.1.1.1.1
+
   no_form : FitsForm words → ⊥
   no_form fits = by fits.form fits.is
     where
@@ -250,7 +184,7 @@ module _ (known : AreKnown) (contents : Contents) (words : List (List ℕ)) (oth
       by (Flat name) is = let d = some_flat contents words name is small in none d.0 d.1
       by (Run w) is = no_run w is
       by (Migrate w) is = no_migrate w is
-      by (Check w) is = absurd (other w is)
+      by (Check w) is = no_check w is
 
   pub never_none : ⊥
   never_none = none reply.Usage (record { cause = by_none no_form refl; free = tt })

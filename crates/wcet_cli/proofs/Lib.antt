@@ -16,4 +16,7 @@ pub mod Ends
 pub mod Headline
 pub mod SomeDue
 pub mod ImageRanges
+pub mod EachStage
 pub mod AlwaysDue
+pub mod OneReply
+pub mod OnlyDue

@@ -15,16 +15,12 @@ use Rattle.wcet_front.specs.declared.reply.Reply.{Reply}
 use Rattle.wcet_front.specs.declared.reply.Reply.TheVariants as reply
 use Rattle.wcet_front.specs.Reply.{IsNoFault}
 use Rattle.wcet_front.specs.Files.{reads_of, missing, long, IsComeTo, AreRead, ReadsAndReplies, unread, replied}
-use Rattle.wcet_front.specs.FileLaws.{unread_is_due, reply_is_due}
-use Rattle.wcet_front.specs.Writing.{RepliesOf}
-use Rattle.wcet_front.specs.WritingLaws.{only_due, due_only}
+use Rattle.wcet_front.specs.WritingLaws.{due_only}
 use Rattle.wcet_cli.specs.Straight.{is_plain_alu, origin, IsPlain, IsLast, bytes_of, address_behind, IsProgram, IsCutOff, IsForeign, bound_of}
 use Rattle.wcet_cli.specs.Words.{IsFlat}
 use Rattle.wcet_cli.specs.FlatCommand.{FlatReplies, bound, leaves_code, unsupported}
-use Rattle.wcet_cli.specs.Commands.{Form, Flat, Run, Migrate, Check, IsForm, FitsForm, files_of, Does}
-use Rattle.wcet_cli.specs.Call.{IsOther, IsCalledFor, by_none, by_form, AreBytes, IsDue}
-use Rattle.wcet_cli.proofs.OneForm.{called_of}
-use Rattle.wcet_cli.proofs.Reading.{one_flat_reply}
+use Rattle.wcet_cli.specs.Commands.{Form, Flat, Run, Migrate, Check, IsForm, FitsForm}
+use Rattle.wcet_cli.specs.Call.{IsOther, by_none, by_form, AreBytes, IsDue}
 
 -- how the words of some bytes go, from a number of words on
 data Course (bytes : List ℕ) : Type 0 where
@@ -223,25 +219,3 @@ some_is_due contents words other all =
     (λ (fits : HasName words). some_flat contents words fits.0 fits.1 all)
     (λ (none : HasName words → ⊥). (reply.Usage, record { cause = by_none (no_form words other none) refl; free = tt }))
     (form words)
-
--- and no other
-pub one_is_due : (contents : Contents) (words : List (List ℕ)) (r s : Reply) → IsOther words → IsDue contents words r → IsDue contents words s → r ≡ s
-one_is_due contents words r s other_words p q = by_cause p.cause q.cause
-  where
-    flat_one : (name : List ℕ) → ReadsAndReplies (reads_of contents) (name ∷ []) FlatReplies r → ReadsAndReplies (reads_of contents) (name ∷ []) FlatReplies s → r ≡ s
-    flat_one name (unread f) other = unread_is_due contents _ _ _ (name ∷ []) FlatReplies r s refl f other p.free q.free
-    flat_one name (replied [] are cause) other = absurd cause
-    flat_one name (replied (bytes ∷ []) are cause) other =
-        one_flat_reply bytes r s cause (reply_is_due contents _ _ _ (name ∷ []) (bytes ∷ []) FlatReplies s refl are other q.free)
-    flat_one name (replied (bytes ∷ more ∷ have) are cause) other = absurd cause
-
-    by_command : (form : Form) → IsForm words form → ReadsAndReplies (reads_of contents) (files_of form) (RepliesOf (Does form)) r → ReadsAndReplies (reads_of contents) (files_of form) (RepliesOf (Does form)) s → r ≡ s
-    by_command (Flat name) is cause other = flat_one name (only_due _ _ FlatReplies r cause) (only_due _ _ FlatReplies s other)
-    by_command (Run w) is cause other = absurd (other_words.no_run w is)
-    by_command (Migrate w) is cause other = absurd (other_words.no_migrate w is)
-    by_command (Check w) is cause other = absurd (other_words.no_check w is)
-
-    by_cause : IsCalledFor contents words r → IsCalledFor contents words s → r ≡ s
-    by_cause (by_none unfit e) (by_none unfit' f) = e ∙ sym f
-    by_cause (by_none unfit e) (by_form form is cause) = absurd (unfit (record { form = form; is = is }))
-    by_cause (by_form form is cause) other = by_command form is cause (called_of contents words form s is other)

@@ -108,21 +108,16 @@ pub record IsOther (words : List (List ℕ)) : Type 0 where
   pub no_migrate : (w : MigrateWords) → IsMigrate words w → ⊥
   pub no_check : (w : CheckWords) → IsCheck words w → ⊥
 
--- the words are not of the form of `check`
-abbrev pub IsNoCheck : List (List ℕ) → Type 0
-IsNoCheck words = (w : CheckWords) → IsCheck words w → ⊥
-
--- Whatever the words, unless they are of the form of `check`, and whatever a store holds, some reply is due: it cannot be that none is.
+-- Whatever the words, and whatever a store holds, some reply is due: it cannot be that none is.
 abbrev pub NeverNone : Type 0
-NeverNone = (contents : Contents) (words : List (List ℕ)) → IsNoCheck words → AreBytes contents → ((due : Reply) → IsDue contents words due → ⊥) → ⊥
+NeverNone = (contents : Contents) (words : List (List ℕ)) → AreBytes contents → ((due : Reply) → IsDue contents words due → ⊥) → ⊥
 
 -- Whatever the words, unless they are of the form of `run`, `migrate` or `check`, and whatever a store holds, some reply is due.
 abbrev pub SomeReplyIsDue : Type 0
 SomeReplyIsDue =
     (contents : Contents) (words : List (List ℕ)) → IsOther words → AreBytes contents → (due : Reply) × IsDue contents words due
 
--- And no other is.
+-- Whatever the words, and whatever a store holds, no other than one that is due is.
 abbrev pub NoOtherIsDue : Type 0
 NoOtherIsDue =
-    (contents : Contents) (words : List (List ℕ)) (due other : Reply) → IsOther words → IsDue contents words due → IsDue contents words other
-    → due ≡ other
+    (contents : Contents) (words : List (List ℕ)) (due other : Reply) → IsDue contents words due → IsDue contents words other → due ≡ other
