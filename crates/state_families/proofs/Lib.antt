@@ -1,0 +1,9 @@
+mod SettlingLemmas
+mod LeavingLemmas
+mod GrowthLemmas
+mod RoundLemmas
+mod ExitLemmas
+mod FirstLemmas
+mod AnswerLemmas
+mod IncomingLemmas
+mod ArrivalLemmas

@@ -1,0 +1,5 @@
+pub mod Families
+pub mod Fresh
+pub mod Leaving
+pub mod Growth
+pub mod Incoming
