@@ -144,8 +144,9 @@ fn unite(
     if fresh.is_empty() {
         return Ok(List::new(fresh));
     }
-    if union.len() > m.states as usize {
-        return join(alloc, set, union, m.states as usize);
+    let states = m.states as usize;
+    if union.len() > states {
+        return join(alloc, set, union, states);
     }
     set.vectors = List::new(union);
     Ok(List::new(fresh))

@@ -9,8 +9,8 @@ use Rattle.state_families.proofs.ExitLemmas.{edge_from}
 use Rattle.state_families.proofs.LeavingLemmas.{keeps_twice}
 use Rattle.state_families.proofs.arrivals.arrivals_at.Goals as goal
 
-pub edge_at-requires : goal.edge_at-requires
-edge_at-requires c =
+pub edge_at-edge-requires : goal.edge_at-edge-requires
+edge_at-edge-requires c =
     c.requires.numbers (get_or c.args.numbers.now c.loop-number.number-index 0) (Contains-get_or c.args.numbers.now c.loop-number.number-index 0 c.loop-number-test.true)
 
 pub bounds-fresh-edge : goal.bounds-fresh-edge

@@ -9,33 +9,33 @@ pub returns-then-is_empty : goal.returns-then-is_empty
 returns-then-is_empty c =
     let set = c.args.set.now in
     let m = c.args.m.now in
-    let fresh = c.in_ok-union.fresh in
-    let union = c.in_ok-union.union in
-    let merged : IsMerged set.vectors c.args.arrivals.now union.items fresh.items = rw (← c.in_ok-union.union-is, ← c.in_ok-union.fresh-is) (rw c.as_slice.ensures at c.in_ok-union.ensures) in
-    let none = none_of fresh.len fresh.items fresh.ok.0 (rw (← c.in_ok-union.fresh-is) (sym c.is_empty.ensures ∙ c.if-is_empty.true)) in
-    unite_same m.states m.horizon c.args.arrivals.now set.vectors c.in_ok-union.union.items fresh.items merged set.kept c.new.result
+    let fresh = c.in_ok-union.field-0.fresh in
+    let union = c.in_ok-union.field-0.union in
+    let merged : IsMerged set.vectors c.args.arrivals.now union.items fresh.items = rw c.as_slice.ensures at c.in_ok-union.ensures in
+    let none = none_of fresh.len fresh.items fresh.ok.0 (sym c.is_empty.ensures ∙ c.if-is_empty.true) in
+    unite_same m.states m.horizon c.args.arrivals.now set.vectors union.items fresh.items merged set.kept c.new.result
     c.requires.sound c.requires.open none (c.new.ensures ∙ none)
 
-pub returns-then-len-m : goal.returns-then-len-m
-returns-then-len-m c =
+pub returns-then-len-states : goal.returns-then-len-states
+returns-then-len-states c =
     let set = c.args.set.now in
     let m = c.args.m.now in
-    let fresh = c.in_ok-union.fresh in
-    let union = c.in_ok-union.union in
-    let merged : IsMerged set.vectors c.args.arrivals.now union.items fresh.items = rw (← c.in_ok-union.union-is, ← c.in_ok-union.fresh-is) (rw c.as_slice.ensures at c.in_ok-union.ensures) in
-    let some = some_of fresh.len fresh.items fresh.ok.0 (rw (← c.in_ok-union.fresh-is) (sym c.is_empty.ensures ∙ c.if-is_empty.false)) in
+    let fresh = c.in_ok-union.field-0.fresh in
+    let union = c.in_ok-union.field-0.union in
+    let merged : IsMerged set.vectors c.args.arrivals.now union.items fresh.items = rw c.as_slice.ensures at c.in_ok-union.ensures in
+    let some = some_of fresh.len fresh.items fresh.ok.0 (sym c.is_empty.ensures ∙ c.if-is_empty.false) in
     IfOk-weaker c.join.result (Joins m.states union.items c.join.new.set) (IsGrowth m.states m.horizon (Contains c.args.arrivals.now) set c.join.new.set)
     (λ list j. unite_join m.states m.horizon c.args.arrivals.now set.vectors union.items fresh.items merged set.kept c.join.new.set list
-    c.requires.sound c.requires.open some c.requires.arrivals (rw (← c.in_ok-union.union-is) (omega (arith, c.if-len-m.true, c.len.ensures, c.in_ok-union.field-0.union.ok.0))) j)
+    c.requires.sound c.requires.open some c.requires.arrivals (omega (arith, c.if-len-states.true, c.len.ensures, union.ok.0)) j)
     c.join.ensures
 
 pub returns : goal.returns
 returns c =
     let set = c.args.set.now in
     let m = c.args.m.now in
-    let fresh = c.in_ok-union.fresh in
-    let union = c.in_ok-union.union in
-    let merged : IsMerged set.vectors c.args.arrivals.now union.items fresh.items = rw (← c.in_ok-union.union-is, ← c.in_ok-union.fresh-is) (rw c.as_slice.ensures at c.in_ok-union.ensures) in
-    let some = some_of fresh.len fresh.items fresh.ok.0 (rw (← c.in_ok-union.fresh-is) (sym c.is_empty.ensures ∙ c.if-is_empty.false)) in
-    unite_open m.states m.horizon c.args.arrivals.now set.vectors union.items fresh.items merged set.kept c.new.result c.new-2.result
-    c.requires.sound c.requires.open some c.requires.arrivals (rw (← c.in_ok-union.union-is) (omega (arith, c.if-len-m.false, c.len.ensures, c.in_ok-union.field-0.union.ok.0))) c.new.ensures c.new-2.ensures
+    let fresh = c.in_ok-union.field-0.fresh in
+    let union = c.in_ok-union.field-0.union in
+    let merged : IsMerged set.vectors c.args.arrivals.now union.items fresh.items = rw c.as_slice.ensures at c.in_ok-union.ensures in
+    let some = some_of fresh.len fresh.items fresh.ok.0 (sym c.is_empty.ensures ∙ c.if-is_empty.false) in
+    unite_open m.states m.horizon c.args.arrivals.now set.vectors union.items fresh.items merged set.kept c.new-2.result c.new-3.result
+    c.requires.sound c.requires.open some c.requires.arrivals (omega (arith, c.if-len-states.false, c.len.ensures, union.ok.0)) c.new-2.ensures c.new-3.ensures

@@ -1,4 +1,4 @@
-use Rattle.std.proofs.Common.{◌≡◌, ◌∙◌, ◌<◌, ℕ, List, Some, ap, arith, length, refl, slice_get, sym}
+use Rattle.std.proofs.Common.{◌≡◌, ◌∙◌, ◌<◌, Some, arith, get_or, length, refl, slice_get, sym}
 use Rattle.std.proofs.lemmas.Option.{slice_get-get_or}
 use Rattle.state_families.specs.Families.{IsExitTo}
 use Rattle.state_families.specs.Leaving.{IsExitAmong}
@@ -30,11 +30,11 @@ grow_node-requires-clause-numbers c =
 
 pub grow_node-requires-clause-sound : goal.grow_node-requires-clause-sound
 grow_node-requires-clause-sound c =
-    let before = c.index-sets-node.result in
+    let before = get_or c.loop-node.sets c.loop-node.node c.index-sets-node.result in
     let node = c.loop-node.node in
     let now = c.loop-node.sets in
     let grown = c.loop-node.invariant.grown in
-    let at : slice_get now node ≡ Some before = slice_get-get_or now node before (omega (arith, c.loop-node-test.true, grown.long)) ∙ ap Some (sym c.index-sets-node.is) in
+    let at : slice_get now node ≡ Some before = slice_get-get_or now node c.index-sets-node.result (omega (arith, c.loop-node-test.true, grown.long)) in
     c.requires.reached.sound node before (sym (grown.rest node (omega arith)) ∙ at)
 
 pub loop-node-init : goal.loop-node-init
@@ -71,7 +71,7 @@ loop-node-preserved c =
     let u = s.unfolded.now in
     let classes = s.classes.now in
     let node = c.loop-node.node in
-    let before = c.index-sets-node.result in
+    let before = get_or c.loop-node.sets c.loop-node.node c.index-sets-node.result in
     let now = c.loop-node.sets in
     let grown = c.loop-node.invariant.grown in
     let fresh = c.args.fresh.now in
@@ -79,7 +79,7 @@ loop-node-preserved c =
     let l : node < length u.nodes = omega (arith, c.loop-node-test.true, c.requires.reached.long) in
     let exact = numbers_exact u.edges (length u.nodes) (length u.edges) c.args.incoming.now c.requires.incoming node c.index-incoming-node.result numbers l
     c.index-incoming-node.is c.as_slice-numbers.ensures.value in
-    let at : slice_get now node ≡ Some before = slice_get-get_or now node before (omega (arith, c.loop-node-test.true, grown.long)) ∙ ap Some (sym c.index-sets-node.is) in record {
+    let at : slice_get now node ≡ Some before = slice_get-get_or now node c.index-sets-node.result (omega (arith, c.loop-node-test.true, grown.long)) in record {
       grown =
           grown_more (IsExitTo u m classes) m.states m.horizon c.args.sets.now fresh node now _ c.loop-node.new.items c.push.new.self.items before c.grow_node.new.set c.in_ok-list.list
           (IsExitAmong u m classes numbers fresh) grown at refl c.in_ok-push.ensures.items (among_arrives u m classes numbers fresh node exact) (arrives_among u m classes numbers fresh node exact)
