@@ -1,5 +1,5 @@
 -- Which refusal a broken rule gives.
-use Rattle.std.proofs.Common.{◌≡◌, ℕ, Bool, true, false, Result, Ok, Err, IfErr, sym, subst, ◌∙◌}
+use Rattle.std.proofs.Common.{◌≡◌, Bool, false, Result, Ok, Err, IfErr, sym, subst, ◌∙◌}
 use Rattle.std.specs.Prelude.{Decides}
 use Rattle.std.specs.Result.{IsErr, IsErrAnd}
 use Rattle.std.proofs.lemmas.Bool.{false≢true}
@@ -10,7 +10,7 @@ use Rattle.cert_text.specs.declared.certificate.Certificate.{Certificate}
 use Rattle.cert_rules.specs.Rules.{HasBound, HasShape, HasSmallNumbers, HasStart, PaysEdges, PaysFinish}
 use Rattle.cert_rules.specs.Judged.{HoldsForAll, shape, numbers, start, bound}
 use Rattle.cert_check.specs.declared.refused.Refused.{Refused}
-use Rattle.cert_check.specs.declared.refused.Refused.TheVariants.{Rejected, NoMemory}
+use Rattle.cert_check.specs.declared.refused.Refused.TheVariants.{Rejected}
 use Rattle.cert_check.specs.Judging.{Breaks}
 
 -- what a test denies does not hold

@@ -1,5 +1,5 @@
 -- What the misses in a block are charged: by the list of a certificate, and by what each event is charged.
-use Rattle.std.proofs.Common.{◌≡◌, ℕ, zero, suc, ◌+◌, ◌<◌, ◌≤◌, ◌^◌, ◌&&◌, ◌==◌, Bool, true, false, cond, if◌then◌else◌, List, [], ◌∷◌, length, map, get_or, slice_get, slice_index, Option, Some, All, AllPairs, refl, sym, ap, subst, ◌∙◌, inl, inr, arith}
+use Rattle.std.proofs.Common.{◌≡◌, ℕ, suc, ◌+◌, ◌<◌, ◌≤◌, ◌&&◌, ◌==◌, Bool, true, false, cond, if◌then◌else◌, List, [], ◌∷◌, length, map, get_or, slice_get, slice_index, Option, Some, Result, Ok, Err, IfOk, All, AllPairs, refl, sym, ap, subst, ◌∙◌, inl, inr, arith}
 use Rattle.std.specs.List.{sum_by}
 use Rattle.std.specs.Option.{option_map_or}
 use Rattle.std.proofs.lemmas.Bool.{false≢true, cases_lt, eqb-true}
@@ -8,7 +8,9 @@ use Rattle.std.proofs.Math.ListN.{get_or-map}
 use Rattle.std.proofs.lemmas.List.Elements.{All-head, All-tail}
 use Rattle.std.proofs.lemmas.List.Sums.{sum_by-cons}
 use Rattle.std.proofs.lemmas.Option.{slice_get-get_or, slice_get_within, get_or_from_slice_get}
-use Rattle.xdd_table.specs.Diagram.{Combination}
+use Rattle.xdd_table.specs.declared.node.Dd.{Dd}
+use Rattle.xdd_table.specs.declared.node.Node.{Node}
+use Rattle.xdd_table.specs.Diagram.{Combination, time}
 use Rattle.flow_block.specs.declared.block.Block.{Block}
 use Rattle.flow_block.specs.declared.block.Slot.{Slot}
 use Rattle.flow_block.specs.declared.block.SlotKind.{SlotKind}
@@ -27,12 +29,12 @@ use Rattle.cache_class.specs.Accesses.{slots_of}
 use Rattle.cache_class.specs.Groups.{IsGroupBefore, IsScopeBefore}
 use Rattle.cert_text.specs.declared.certificate.Charge.{Charge}
 use Rattle.cert_text.specs.declared.certificate.Certificate.{Certificate}
-use Rattle.cert_rules.specs.Prices.{same_scope, charge_of, slot_charge, missed, missed_from}
+use Rattle.cert_rules.specs.Prices.{same_scope, charge_of, slot_charge, missed_from}
 use Rattle.cert_rules.specs.Rules.{group_of, greatest_number}
 use Rattle.cert_prices.specs.Keys.{AreApart, AreEventCharges, charge_in, event_charge}
-use Rattle.cert_judge.specs.Offers.{charge_of as charge_if_first}
 use Rattle.cert_judge.specs.Laws.{AreCharges, MissesAreCharged, missed_from as missed_by}
-use Rattle.cert_check.specs.Judging.{HasCharges, IsSite, IsSubject}
+use Rattle.cert_judge.specs.Offers.{IsCharged, charge_of as charge_if_first, charged_from}
+use Rattle.cert_check.specs.Judging.{AreChargesOf, HasCharges, IsSite, IsSubject}
 
 -- no scope is before itself
 not_before : (s : Scope) → IsScopeBefore s s → ⊥
@@ -191,20 +193,22 @@ slots_are u node block is =
     ∙ ap (λ (o : Option Block). option_map_or (λ (b : Block). b.slots) o []) is.block_stands
 
 -- what is known of a node and what misses are charged in it
-pub site_of : (u : Unfolded) (m : Machine) (classes : Classes) (c : Certificate) (table : List ((ℕ × Option ℕ) × ℕ)) (node : ℕ) (block : Block)
+pub charges_of : (u : Unfolded) (m : Machine) (classes : Classes) (c : Certificate) (table : List ((ℕ × Option ℕ) × ℕ)) (node : ℕ) (block : Block)
     (kinds : List Class) (amounts : List ℕ) → IsSubject u m classes c → HasCharges table c.charges → MissesAreCharged → length block.slots ≤ most_slots
     → IsBlockOf u node block → slice_get classes.slots node ≡ Some kinds → AreEventCharges (charge_in table) block.slots kinds amounts
-    → IsSite u classes c node kinds amounts
-site_of u m classes c table node block kinds amounts s has law few is stands are =
+    → AreChargesOf u classes c node kinds amounts
+charges_of u m classes c table node block kinds amounts s has law few is stands are =
     let long : length kinds ≡ length block.slots =
     (s.classed.each node is.node kinds is.stands stands).long ∙ ap (λ (xs : List Slot). length xs) (slots_are u node block is) in
     let apart = groups_apart c.charges s.shape.charges.ascending in
     record {
       block = block;
       is = record { is = is; stands = stands };
-      few = omega (arith, few, long);
-      long = are.long ∙ sym long;
-      small = amounts_small table c.charges has apart s.small.charges block.slots kinds amounts are (sym long);
+      small = record {
+        few = omega (arith, few, long);
+        long = are.long ∙ sym long;
+        small = amounts_small table c.charges has apart s.small.charges block.slots kinds amounts are (sym long);
+      };
       charged = λ f.
           law (λ event class. slot_charge c.charges event.kind class) f block.slots kinds amounts
           (amounts_are table c.charges has apart s.small.charges block.slots kinds amounts are (sym long))
@@ -216,3 +220,13 @@ pub kinds_long : (u : Unfolded) (m : Machine) (classes : Classes) (c : Certifica
     → IsSubject u m classes c → IsBlockOf u node block → slice_get classes.slots node ≡ Some kinds → length block.slots ≡ length kinds
 kinds_long u m classes c node block kinds s is stands =
     sym ((s.classed.each node is.node kinds is.stands stands).long ∙ ap (λ (xs : List Slot). length xs) (slots_are u node block is))
+
+-- the diagram of what the misses are charged
+pub site_is : {E : Type 0} (nodes : List Node) (u : Unfolded) (classes : Classes) (c : Certificate) (node : ℕ) (found kinds : List Class) (charges : List ℕ) (r : Result Dd E) → found ≡ kinds
+    → AreChargesOf u classes c node found charges
+    → IfOk r (λ d. (f : Combination) → time nodes f d.place ≡ charged_from charges 0 f found) → IfOk r (IsCharged nodes found)
+    → IfOk r (IsSite nodes u classes c node kinds)
+site_is nodes u classes c node found kinds charges (Ok d) same are times charged =
+    subst (λ (ks : List Class). IsSite nodes u classes c node ks d) same
+    (record { block = are.block; is = are.is; diagram = charged; times = λ f. times f ∙ are.charged f })
+site_is nodes u classes c node found kinds charges (Err e) same are times charged = tt

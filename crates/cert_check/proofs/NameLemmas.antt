@@ -1,5 +1,5 @@
 -- Which vector breaks a rule first: in a family, in all nodes, and of all rules.
-use Rattle.std.proofs.Common.{◌≡◌, ℕ, ◌+◌, ◌<◌, ◌≤◌, ◌⊎◌, List, length, slice_get, Some, refl, sym, ap, subst, ◌∙◌, inl, inr, arith}
+use Rattle.std.proofs.Common.{◌≡◌, ℕ, ◌+◌, ◌<◌, ◌≤◌, List, length, slice_get, Some, sym, ap, subst, ◌∙◌, inl, inr, arith}
 use Rattle.std.proofs.lemmas.Bool.{cases_lt}
 use Rattle.std.proofs.lemmas.Option.{same_Some, slice_get_within}
 use Rattle.wx_base.specs.declared.machine.Machine.{Machine}
@@ -9,7 +9,7 @@ use Rattle.cache_class.specs.Classes.{AreClasses}
 use Rattle.cert_text.specs.declared.certificate.CertVector.{CertVector}
 use Rattle.cert_text.specs.declared.certificate.Certificate.{Certificate}
 use Rattle.cert_rules.specs.Rules.{HasShape, HasSmallNumbers, HasStart, PaysFinish, PaysEdges}
-use Rattle.cert_rules.specs.Judged.{FailsFirst, HoldsForAll, IsBroken, finish, edge}
+use Rattle.cert_rules.specs.Judged.{HoldsForAll, IsBroken, finish, edge}
 use Rattle.cert_check.specs.declared.refused.Refused.{Refused}
 use Rattle.cert_check.specs.declared.refused.Refused.TheVariants.{Rejected, NoMemory}
 use Rattle.cert_check.specs.Answers.{IsRefusal}

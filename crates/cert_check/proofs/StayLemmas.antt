@@ -1,27 +1,20 @@
 -- What is said of diagrams stays as the table grows.
-use Rattle.std.proofs.Common.{◌≡◌, ℕ, ◌+◌, ◌<◌, ◌≤◌, Bool, true, false, List, [], ◌∷◌, length, map, All, Option, IfSome, refl, sym, ap, ◌∙◌, arith}
-use Rattle.std.proofs.lemmas.List.Elements.{All-head, All-tail, All-weaker}
-use Rattle.std.proofs.lemmas.Option.{IfSome_then}
+use Rattle.std.proofs.Common.{ℕ, List, refl, sym, ◌∙◌, arith}
 use Rattle.wx_base.specs.declared.machine.Machine.{Machine}
-use Rattle.wx_base.specs.Blocks.{Exit}
 use Rattle.xdd_table.specs.declared.node.Dd.{Dd}
 use Rattle.xdd_table.specs.declared.node.Node.{Node}
-use Rattle.xdd_table.specs.Diagram.{Combination, time, Keeps}
+use Rattle.xdd_table.specs.Diagram.{Keeps}
+use Rattle.flow_block.specs.Blocks.{most_slots}
 use Rattle.flow_ctx.specs.declared.unfolded.Edge.{Edge}
 use Rattle.flow_ctx.specs.declared.unfolded.Unfolded.{Unfolded}
-use Rattle.pipe_block.specs.declared.diagrams.BlockExit.{BlockExit}
-use Rattle.pipe_block.specs.declared.diagrams.BlockVector.{BlockVector}
-use Rattle.pipe_block.specs.declared.key.MemoKey.{MemoKey}
-use Rattle.pipe_time.specs.declared.vector.Vector.{Vector}
-use Rattle.pipe_block.specs.Kept.{AreRight}
-use Rattle.pipe_block.specs.Exits.{exit_at}
-use Rattle.pipe_block.specs.Laws.{KeepsVectors, RightAnswersStay, TimesStay}
-use Rattle.pipe_block.specs.Times.{IsDiagram, AreDiagrams, times_at}
-use Rattle.flow_block.specs.Blocks.{most_slots}
+use Rattle.pipe_block.specs.Times.{IsDiagram}
+use Rattle.cache_class.specs.declared.class.Class.{Class}
+use Rattle.cache_class.specs.declared.class.Classes.{Classes}
 use Rattle.cert_text.specs.declared.certificate.CertVector.{CertVector}
-use Rattle.cert_check.specs.declared.exits.Exits.{Exits}
-use Rattle.cert_check.specs.Judging.{AreExitsOf, IsExit, IsTimed, known_exit}
-use Rattle.cert_check.specs.Places.{ForEach, IsCost, IsFinish, edges_of, AreNodeFinishes, AreFinishes, AreVectorCosts, AreNodeCosts, AreCosts}
+use Rattle.cert_text.specs.declared.certificate.Certificate.{Certificate}
+use Rattle.cert_judge.specs.Settled.{settled}
+use Rattle.cert_check.specs.Judging.{IsSite}
+use Rattle.cert_check.specs.Places.{IsCost, IsFinish, edges_of, AreNodeFinishes, AreFinishes, AreVectorCosts, AreNodeCosts, AreCosts}
 use Rattle.cert_check.proofs.ListLemmas.{for_each_all}
 
 -- a table keeps what it has, at once and in two steps
@@ -37,23 +30,22 @@ keeps_twice a b c k l = record {
   events = λ p bound h e. l.events p bound (omega (arith, k.grows)) (k.events p bound h e);
 }
 
-same_exit : (a b : ℕ) (xs ys : List ℕ) → a ≡ b → xs ≡ ys
-    → ◌≡◌ {A = Exit} (record { cost = a; slots = xs }) (record { cost = b; slots = ys })
-same_exit a b xs ys p q = rw (p, q) refl
-
 module _ (old new : List Node) (k : Keeps old new) where
   pub diagram_stays : (bound : ℕ) (d : Dd) → IsDiagram old bound d → IsDiagram new bound d
   diagram_stays bound d w = record { within = omega (arith, w.within, k.grows); events = k.events d.place bound w.within w.events }
 
-  pub diagrams_stay : (bound : ℕ) (ds : List Dd) → AreDiagrams old bound ds → AreDiagrams new bound ds
-  diagrams_stay bound ds all = All-weaker (IsDiagram old bound) (IsDiagram new bound) (λ d w. diagram_stays bound d w) ds all
-
-  times_at_stay : (bound : ℕ) (f : Combination) (ds : List Dd) → AreDiagrams old bound ds → times_at new f ds ≡ times_at old f ds
-  times_at_stay bound f [] all = refl
-  times_at_stay bound f (d ∷ ds) all =
-      let a : time new f d.place ≡ time old f d.place = k.times f d.place (All-head (IsDiagram old bound) d ds all).within in
-      let b : times_at new f ds ≡ times_at old f ds = times_at_stay bound f ds (All-tail (IsDiagram old bound) d ds all) in
-      rw (a, b) refl
+  pub site_stays : (u : Unfolded) (classes : Classes) (c : Certificate) (node : ℕ) (kinds : List Class) (charged : Dd) → IsSite old u classes c node kinds charged
+      → IsSite new u classes c node kinds charged
+  site_stays u classes c node kinds charged s = record {
+    block = s.block;
+    is = s.is;
+    diagram = record {
+      few = s.diagram.few;
+      within = omega (arith, s.diagram.within, k.grows);
+      alike = λ f. k.times (settled kinds f) charged.place s.diagram.within ∙ (s.diagram.alike f ∙ sym (k.times f charged.place s.diagram.within));
+    };
+    times = λ f. k.times f charged.place s.diagram.within ∙ s.times f;
+  }
 
   module _ (u : Unfolded) (m : Machine) where
     pub finish_stays : (node : ℕ) (v : CertVector) (d : Dd) → IsFinish old u m node v d → IsFinish new u m node v d
@@ -66,28 +58,6 @@ module _ (old new : List Node) (k : Keeps old new) where
     cost_stays v edge d w = record {
       diagram = diagram_stays most_slots d w.diagram;
       each = λ block f is. k.times f d.place w.diagram.within ∙ w.each block f is;
-    }
-
-    pub exit_stays : (node : ℕ) (v : CertVector) (taken : Bool) (e : BlockExit) → IsExit old u m node v taken e → IsExit new u m node v taken e
-    exit_stays node v taken e w = record {
-      diagrams = diagrams_stay most_slots (e.cost ∷ e.slots) w.diagrams;
-      each = λ block f is.
-          same_exit (time new f e.cost.place) (time old f e.cost.place) (times_at new f e.slots) (times_at old f e.slots)
-          (k.times f e.cost.place (All-head (IsDiagram old most_slots) e.cost e.slots w.diagrams).within)
-          (times_at_stay most_slots f e.slots (All-tail (IsDiagram old most_slots) e.cost e.slots w.diagrams))
-          ∙ w.each block f is;
-    }
-
-    pub timed_stays : TimesStay → (node : ℕ) (v : CertVector) (times : BlockVector) → IsTimed old u m node v times → IsTimed new u m node v times
-    timed_stays law node v times w = record {
-      diagrams = diagrams_stay most_slots (times.last ∷ times.slots) w.diagrams;
-      each = λ block is. law old new m v.slots.slots block times k (w.each block is);
-    }
-
-    pub exits_stay : TimesStay → (node : ℕ) (v : CertVector) (exits : Exits) → AreExitsOf old u m node v exits → AreExitsOf new u m node v exits
-    exits_stay law node v exits w = record {
-      times = timed_stays law node v exits.times w.times;
-      known = λ taken. IfSome_then (known_exit exits taken) (w.known taken) (λ e x. exit_stays node v taken e x);
     }
 
     pub node_finishes_stay : (node : ℕ) (family : List CertVector) (ds : List Dd) → AreNodeFinishes old u m node family ds → AreNodeFinishes new u m node family ds
@@ -112,8 +82,3 @@ module _ (old new : List Node) (k : Keeps old new) where
     costs_stay families costs w =
         for_each_all (λ node family ds. AreNodeCosts old u m node family ds) (λ node family ds. AreNodeCosts new u m node family ds) families costs
         (λ node family ds x. node_costs_stay node family ds x) w
-
--- kept answers stay right
-pub right_stays : RightAnswersStay → (old new : List Node) (pool : List Vector) (m : Machine) (u : Unfolded) (entries : List (MemoKey × BlockVector)) → Keeps old new
-    → AreRight old pool m u entries → AreRight new pool m u entries
-right_stays law old new pool m u entries k right = law old new pool pool m u entries k (record { kept = λ place v is. is }) right

@@ -1,23 +1,18 @@
 -- How the vectors of a certificate are judged one by one. This project's own.
-use Rattle.std.specs.Prelude.{◌≡◌, ℕ, ◌+◌, ◌<◌, ◌≤◌, ◌^◌, Bool, true, false, List, ◌∷◌, length, slice_get, slice_index, Some, IfSome, Option, All}
+use Rattle.std.specs.Prelude.{◌≡◌, ℕ, ◌+◌, ◌<◌, ◌≤◌, ◌^◌, List, length, slice_get, Some, Option, All}
 use Rattle.wx_base.specs.declared.machine.Machine.{Machine}
 use Rattle.wx_base.specs.Machine.{IsMachine}
 use Rattle.wx_base.specs.Blocks.{exit_from, finish_from}
+use Rattle.xdd_table.specs.declared.node.Dd.{Dd}
 use Rattle.xdd_table.specs.declared.node.Node.{Node}
-use Rattle.xdd_table.specs.Diagram.{Combination}
+use Rattle.xdd_table.specs.Diagram.{Combination, time}
 use Rattle.flow_block.specs.declared.block.Block.{Block}
-use Rattle.flow_block.specs.Blocks.{most_slots}
 use Rattle.flow_ctx.specs.declared.unfolded.Edge.{Edge}
 use Rattle.flow_ctx.specs.declared.unfolded.Unfolded.{Unfolded}
 use Rattle.flow_ctx.specs.declared.scope.Scope.{Scope}
 use Rattle.flow_ctx.specs.Laws.{IsUnfoldedOn}
-use Rattle.flow_ctx.specs.Nodes.{IsBlockOf}
 use Rattle.flow_ctx.specs.Unfolding.{most_nodes}
-use Rattle.pipe_block.specs.declared.diagrams.BlockExit.{BlockExit}
-use Rattle.pipe_block.specs.declared.diagrams.BlockVector.{BlockVector}
 use Rattle.pipe_block.specs.Events.{entries_of}
-use Rattle.pipe_block.specs.Exits.{exit_at}
-use Rattle.pipe_block.specs.Times.{AreDiagrams, AreTimes}
 use Rattle.cache_class.specs.declared.class.Class.{Class}
 use Rattle.cache_class.specs.declared.class.Classes.{Classes}
 use Rattle.cache_class.specs.Allowed.{IsAllowed}
@@ -28,10 +23,9 @@ use Rattle.cert_text.specs.declared.certificate.Certificate.{Certificate}
 use Rattle.cert_rules.specs.Prices.{charge_of, missed}
 use Rattle.cert_rules.specs.Rules.{HasShape, HasSmallNumbers, IsClassed, PaysOn}
 use Rattle.cert_rules.specs.Judged.{FailsFirst, IsBroken}
-use Rattle.cert_judge.specs.Offers.{charged_from}
+use Rattle.cert_judge.specs.Offers.{AreSmallCharges, IsCharged, charged_from}
 use Rattle.cert_prices.specs.Keys.{charge_in}
 use Rattle.cert_prices.specs.Sums.{AreEdgePrices}
-use Rattle.cert_check.specs.declared.exits.Exits.{Exits}
 use Rattle.cert_check.specs.declared.refused.Refused.{Refused}
 use Rattle.cert_check.specs.declared.refused.Refused.TheVariants.{Rejected, NoMemory}
 
@@ -55,13 +49,18 @@ pub record ArePrices (c : Certificate) (u : Unfolded) (costs returns : List ℕ)
   pub returns_small : All (λ price. price < 2 ^ 127) returns
 
 -- a node's events have these classes, and a miss of each is charged this
-pub record IsSite (u : Unfolded) (classes : Classes) (c : Certificate) (node : ℕ) (kinds : List Class) (charges : List ℕ) : Type 0 where
+pub record AreChargesOf (u : Unfolded) (classes : Classes) (c : Certificate) (node : ℕ) (kinds : List Class) (charges : List ℕ) : Type 0 where
   pub block : Block
   pub is : IsClassed u classes node block kinds
-  pub few : length kinds ≤ most_slots
-  pub long : length charges ≡ length kinds
-  pub small : (number : ℕ) → slice_index charges number ≤ 10 ^ 18
+  pub small : AreSmallCharges kinds charges
   pub charged : (f : Combination) → charged_from charges 0 f kinds ≡ missed c.charges f block kinds
+
+-- a node's events have these classes, and the diagram has what its misses are charged
+pub record IsSite (nodes : List Node) (u : Unfolded) (classes : Classes) (c : Certificate) (node : ℕ) (kinds : List Class) (charged : Dd) : Type 0 where
+  pub block : Block
+  pub is : IsClassed u classes node block kinds
+  pub diagram : IsCharged nodes kinds charged
+  pub times : (f : Combination) → time nodes f charged.place ≡ missed c.charges f block kinds
 
 -- a vector of a node pays for a run that ends in the node's block
 pub record VectorPaysFinish (u : Unfolded) (m : Machine) (classes : Classes) (c : Certificate) (node : ℕ) (v : CertVector) : Type 0 where
@@ -77,27 +76,6 @@ pub record VectorPaysEdge (u : Unfolded) (m : Machine) (classes : Classes) (c : 
 -- a vector of a node pays for going on along each of the node's edges
 pub record VectorPaysEdges (u : Unfolded) (m : Machine) (classes : Classes) (c : Certificate) (node : ℕ) (v : CertVector) : Type 0 where
   pub each : (number : ℕ) (edge : Edge) → slice_get u.edges number ≡ Some edge → edge.from ≡ node → VectorPaysEdge u m classes c v number
-
--- the times of a node's block from a vector
-pub record IsTimed (nodes : List Node) (u : Unfolded) (m : Machine) (node : ℕ) (v : CertVector) (times : BlockVector) : Type 0 where
-  pub diagrams : AreDiagrams nodes most_slots (times.last ∷ times.slots)
-  pub each : (block : Block) → IsBlockOf u node block → AreTimes nodes m v.slots.slots block times
-
--- what an edge of a node hands on from a vector, where the last instruction jumps or does not
-pub record IsExit (nodes : List Node) (u : Unfolded) (m : Machine) (node : ℕ) (v : CertVector) (taken : Bool) (e : BlockExit) : Type 0 where
-  pub diagrams : AreDiagrams nodes most_slots (e.cost ∷ e.slots)
-  pub each : (block : Block) (f : Combination) → IsBlockOf u node block
-      → exit_at nodes e f ≡ exit_from m v.slots.slots (entries_of block f) taken
-
--- the exit that is known where the last instruction jumps or does not, if it is
-abbrev pub known_exit : Exits → Bool → Option BlockExit
-known_exit exits true = exits.jumped
-known_exit exits false = exits.behind
-
--- the times of a node's block from a vector, and of the two exits those that are known
-pub record AreExitsOf (nodes : List Node) (u : Unfolded) (m : Machine) (node : ℕ) (v : CertVector) (exits : Exits) : Type 0 where
-  pub times : IsTimed nodes u m node v exits.times
-  pub known : (taken : Bool) → IfSome (known_exit exits taken) (IsExit nodes u m node v taken)
 
 -- The edges of a node are those with numbers from the first up to the end. Those before leave earlier nodes, those behind later ones.
 pub record IsRange (edges : List Edge) (node first end : ℕ) : Type 0 where

@@ -4,27 +4,26 @@ ghost use Rattle.std.specs.Prelude.{◌≡◌, ◌<◌, ◌^◌, ℕ, List, leng
 ghost use Rattle.std.specs.Prelude.{MatchOption, OnOk};
 ghost use Rattle.flow_ctx.specs.declared.unfolded.Edge.{Edge as EdgeOf};
 ghost use Rattle.xdd_table.specs.Diagram.{Keeps};
-ghost use Rattle.pipe_block.specs.Kept.{AreRight};
+ghost use Rattle.node_exits.specs.NodeExits.{IsNodeLeaving, IsRight};
 ghost use Rattle.cert_text.specs.declared.certificate.CertVector.{CertVector as VectorOf};
 ghost use Rattle.cert_rules.specs.Prices.{entering, returning};
 ghost use Rattle.cert_rules.specs.Rules.{IsSmallVector, PaysEdges};
 ghost use Rattle.cert_rules.specs.Judged.{HoldsForAll};
 ghost use Rattle.cert_check.specs.Places.{AreCosts, AreNodeCosts, AreVectorCosts, IsCost};
-ghost use Rattle.cert_check.specs.Judging.{ArePrices, AreExitsOf, FamilyPays, HasCharges, IsExit, IsRange, IsSite};
+ghost use Rattle.cert_check.specs.Judging.{ArePrices, FamilyPays, HasCharges, IsRange, IsSite};
 ghost use Rattle.cert_check.specs.Judging.{IsSubject, NamesFirst, NamesPlace, VectorPaysEdge, VectorPaysEdges};
 
-use crate::charging::charges_at;
+use crate::charging::charged_at;
 use crate::checked::{NodeCosts, VectorCosts};
-use crate::exits::Exits;
-use crate::leaving::{exit_along, exits_from};
 use crate::ranges::end_of_edges;
 use crate::refused::Refused;
 use crate::subject::{Site, Stretch, Subject, classes_at, family_of, offer_at};
-use crate::work::{Work, times_at};
+use crate::work::leave_along;
 use cert_judge::{Crossing, pays_edge};
 use cert_text::CertVector;
 use flow_ctx::{Edge, Unfolded};
-use pipe_block::{BlockExit, kept_answers_stay};
+use node_exits::{Work, exits_stay};
+use pipe_block::Leaving;
 use wx_text::{List, NoMemory};
 use xdd_table::{Dd, Table};
 
@@ -60,10 +59,10 @@ fn crossing_at<'a>(subject: &Subject<'a>, edge: &Edge, number: usize) -> Crossin
     }
 }
 
-/// Whether a vector pays for an edge, where this is the exit along it.
+/// Whether a vector pays for an edge, where this is what the block hands on along it.
 fn edge_pays(
     table: &mut Table,
-    exit: &BlockExit,
+    leaving: &Leaving,
     subject: &Subject,
     site: &Site,
     number: usize,
@@ -72,28 +71,29 @@ fn edge_pays(
     requires subject { let s = subject.now in
         IsSubject s.unfolded.now s.machine.now s.classes.now s.certificate.now }
     requires site { let s = subject.now in
-        IsSite s.unfolded.now s.classes.now s.certificate.now site.now.node site.now.classes.now site.now.charges.now }
+        IsSite table.old s.unfolded.now s.classes.now s.certificate.now site.now.node site.now.classes.now
+        site.now.charged }
     requires prices { let s = subject.now in
         ArePrices s.certificate.now s.unfolded.now s.prices.now.entering s.prices.now.returning }
     requires number { number < length subject.now.unfolded.now.edges }
     requires from { (edge : EdgeOf) → slice_get subject.now.unfolded.now.edges number ≡ Some edge
         → edge.from ≡ site.now.node }
     requires small { IsSmallVector v.now }
-    requires exit { let s = subject.now in (edge : EdgeOf) → slice_get s.unfolded.now.edges number ≡ Some edge
-        → IsExit table.old s.unfolded.now s.machine.now site.now.node v.now edge.taken exit.now }
+    requires leaving { let s = subject.now in (edge : EdgeOf) → slice_get s.unfolded.now.edges number ≡ Some edge
+        → IsNodeLeaving table.old s.unfolded.now s.machine.now site.now.node v.now.slots edge.taken leaving.now }
     ensures pays { let s = subject.now in IfOk result (λ pays. Decides pays
         (VectorPaysEdge s.unfolded.now s.machine.now s.classes.now s.certificate.now v.now number)) }
     ensures kept { Keeps table.old table.new }
 {
     let edge = edge_at(subject.unfolded, number);
     let crossing = crossing_at(subject, edge, number);
-    pays_edge(table, exit, &offer_at(site, v.potential), &crossing)
+    pays_edge(table, leaving, &offer_at(site, v.potential), &crossing)
 }
 
 /// The cost along an edge from a vector, if the vector pays for it.
 fn paid_cost(
     table: &mut Table,
-    exits: &mut Exits,
+    work: &mut Work,
     subject: &Subject,
     site: &Site,
     number: usize,
@@ -102,67 +102,37 @@ fn paid_cost(
     requires subject { let s = subject.now in
         IsSubject s.unfolded.now s.machine.now s.classes.now s.certificate.now }
     requires site { let s = subject.now in
-        IsSite s.unfolded.now s.classes.now s.certificate.now site.now.node site.now.classes.now site.now.charges.now }
+        IsSite table.old s.unfolded.now s.classes.now s.certificate.now site.now.node site.now.classes.now
+        site.now.charged }
     requires prices { let s = subject.now in
         ArePrices s.certificate.now s.unfolded.now s.prices.now.entering s.prices.now.returning }
     requires number { number < length subject.now.unfolded.now.edges }
     requires from { (edge : EdgeOf) → slice_get subject.now.unfolded.now.edges number ≡ Some edge
         → edge.from ≡ site.now.node }
     requires small { IsSmallVector v.now }
-    requires exits { let s = subject.now in
-        AreExitsOf table.old s.unfolded.now s.machine.now site.now.node v.now exits.old }
+    requires node { site.now.node < length subject.now.unfolded.now.nodes }
+    requires right { let s = subject.now in IsRight table.old s.unfolded.now s.machine.now work.old }
     ensures cost { let s = subject.now in
         let pays = VectorPaysEdge s.unfolded.now s.machine.now s.classes.now s.certificate.now v.now number in
         (edge : EdgeOf) → slice_get s.unfolded.now.edges number ≡ Some edge → IfOk result (λ found.
         MatchOption found (pays → ⊥) (λ d. pays × IsCost table.new s.unfolded.now s.machine.now v.now edge d)) }
-    ensures exits { let s = subject.now in
-        AreExitsOf table.new s.unfolded.now s.machine.now site.now.node v.now exits.new }
+    ensures right { let s = subject.now in IsRight table.new s.unfolded.now s.machine.now work.new }
     ensures kept { Keeps table.old table.new }
 {
-    kept_answers_stay();
+    exits_stay();
     let edge = edge_at(subject.unfolded, number);
-    let exit = exit_along(table, exits, edge.taken, subject.machine)?;
-    let pays = edge_pays(table, &exit, subject, site, number, v)?;
-    if pays { Ok(Some(exit.cost)) } else { Ok(None) }
+    let answer = leave_along(table, work, subject, edge, v)?;
+    let leaving = work.leaving(answer);
+    let pays = edge_pays(table, leaving, subject, site, number, v)?;
+    if pays {
+        Ok(Some(leaving.cost))
+    } else {
+        Ok(None)
+    }
 }
 
 /// The costs along a node's edges from a vector, if the vector pays for them all.
 fn costs_along(
-    table: &mut Table,
-    exits: &mut Exits,
-    subject: &Subject,
-    site: &Site,
-    stretch: &Stretch,
-    v: &CertVector,
-) -> Result<Option<VectorCosts>, NoMemory>
-    requires subject { let s = subject.now in
-        IsSubject s.unfolded.now s.machine.now s.classes.now s.certificate.now }
-    requires site { let s = subject.now in
-        IsSite s.unfolded.now s.classes.now s.certificate.now site.now.node site.now.classes.now site.now.charges.now }
-    requires prices { let s = subject.now in
-        ArePrices s.certificate.now s.unfolded.now s.prices.now.entering s.prices.now.returning }
-    requires range { IsRange subject.now.unfolded.now.edges site.now.node stretch.now.first stretch.now.end }
-    requires small { IsSmallVector v.now }
-    requires exits { let s = subject.now in
-        AreExitsOf table.old s.unfolded.now s.machine.now site.now.node v.now exits.old }
-    ensures costs { let s = subject.now in let node = site.now.node in
-        let pays = VectorPaysEdges s.unfolded.now s.machine.now s.classes.now s.certificate.now node v.now in
-        IfOk result (λ found. MatchOption found (pays → ⊥)
-        (λ costs. pays × AreVectorCosts table.new s.unfolded.now s.machine.now node v.now costs)) }
-    ensures kept { Keeps table.old table.new }
-{
-    let mut costs = Vec::new(table.allocator());
-    for number in stretch.first..stretch.end {
-        match paid_cost(table, exits, subject, site, number, v)? {
-            Some(cost) => costs.push(cost)?,
-            None => return Ok(None),
-        }
-    }
-    Ok(Some(List::new(costs)))
-}
-
-/// The costs along a node's edges from a vector, worked out from the times of the node's block.
-fn paid_costs(
     table: &mut Table,
     work: &mut Work,
     subject: &Subject,
@@ -173,26 +143,29 @@ fn paid_costs(
     requires subject { let s = subject.now in
         IsSubject s.unfolded.now s.machine.now s.classes.now s.certificate.now }
     requires site { let s = subject.now in
-        IsSite s.unfolded.now s.classes.now s.certificate.now site.now.node site.now.classes.now site.now.charges.now }
-    requires node { site.now.node < length subject.now.unfolded.now.nodes }
+        IsSite table.old s.unfolded.now s.classes.now s.certificate.now site.now.node site.now.classes.now
+        site.now.charged }
     requires prices { let s = subject.now in
         ArePrices s.certificate.now s.unfolded.now s.prices.now.entering s.prices.now.returning }
     requires range { IsRange subject.now.unfolded.now.edges site.now.node stretch.now.first stretch.now.end }
     requires small { IsSmallVector v.now }
-    requires right { let s = subject.now in
-        AreRight table.old work.old.pool s.machine.now s.unfolded.now work.old.memo }
+    requires node { site.now.node < length subject.now.unfolded.now.nodes }
+    requires right { let s = subject.now in IsRight table.old s.unfolded.now s.machine.now work.old }
     ensures costs { let s = subject.now in let node = site.now.node in
         let pays = VectorPaysEdges s.unfolded.now s.machine.now s.classes.now s.certificate.now node v.now in
         IfOk result (λ found. MatchOption found (pays → ⊥)
         (λ costs. pays × AreVectorCosts table.new s.unfolded.now s.machine.now node v.now costs)) }
-    ensures right { let s = subject.now in
-        AreRight table.new work.new.pool s.machine.now s.unfolded.now work.new.memo }
+    ensures right { let s = subject.now in IsRight table.new s.unfolded.now s.machine.now work.new }
     ensures kept { Keeps table.old table.new }
 {
-    kept_answers_stay();
-    let times = times_at(table, work, subject, site.node, v)?;
-    let mut exits = exits_from(times);
-    costs_along(table, &mut exits, subject, site, stretch, v)
+    let mut costs = Vec::new(table.allocator());
+    for number in stretch.first..stretch.end {
+        match paid_cost(table, work, subject, site, number, v)? {
+            Some(cost) => costs.push(cost)?,
+            None => return Ok(None),
+        }
+    }
+    Ok(Some(List::new(costs)))
 }
 
 /// The costs along a node's edges from each of the node's vectors, if all pay for them.
@@ -207,14 +180,15 @@ fn family_costs(
     requires subject { let s = subject.now in
         IsSubject s.unfolded.now s.machine.now s.classes.now s.certificate.now }
     requires site { let s = subject.now in
-        IsSite s.unfolded.now s.classes.now s.certificate.now site.now.node site.now.classes.now site.now.charges.now }
+        IsSite table.old s.unfolded.now s.classes.now s.certificate.now site.now.node site.now.classes.now
+        site.now.charged }
     requires node { site.now.node < length subject.now.unfolded.now.nodes }
     requires prices { let s = subject.now in
         ArePrices s.certificate.now s.unfolded.now s.prices.now.entering s.prices.now.returning }
     requires range { IsRange subject.now.unfolded.now.edges site.now.node stretch.now.first stretch.now.end }
     requires small { All IsSmallVector family.now }
     requires right { let s = subject.now in
-        AreRight table.old work.old.pool s.machine.now s.unfolded.now work.old.memo }
+        IsRight table.old s.unfolded.now s.machine.now work.old }
     ensures costs { let s = subject.now in IfOk result (λ costs.
         AreNodeCosts table.new s.unfolded.now s.machine.now site.now.node family.now costs.items) }
     ensures pays { let s = subject.now in
@@ -224,12 +198,12 @@ fn family_costs(
         let pays = VectorPaysEdges s.unfolded.now s.machine.now s.classes.now s.certificate.now site.now.node in
         IfErr result (NamesPlace (FamilyPays pays family.now) 3 site.now.node) }
     ensures right { let s = subject.now in
-        AreRight table.new work.new.pool s.machine.now s.unfolded.now work.new.memo }
+        IsRight table.new s.unfolded.now s.machine.now work.new }
     ensures kept { Keeps table.old table.new }
 {
     let mut costs = Vec::new(table.allocator());
     for place in 0..family.len() {
-        match paid_costs(table, work, subject, site, stretch, &family[place])? {
+        match costs_along(table, work, subject, site, stretch, &family[place])? {
             Some(found) => costs.push(found)?,
             None => {
                 return Err(Refused::Rejected {
@@ -259,7 +233,7 @@ fn node_costs(
     requires range { IsRange subject.now.unfolded.now.edges node stretch.now.first stretch.now.end }
     requires node { node < length subject.now.unfolded.now.nodes }
     requires right { let s = subject.now in
-        AreRight table.old work.old.pool s.machine.now s.unfolded.now work.old.memo }
+        IsRight table.old s.unfolded.now s.machine.now work.old }
     ensures costs { let s = subject.now in (family : List VectorOf)
         → slice_get s.certificate.now.families node ≡ Some family
         → IfOk result (AreNodeCosts table.new s.unfolded.now s.machine.now node family) }
@@ -268,14 +242,15 @@ fn node_costs(
     ensures refused { let s = subject.now in IfErr result
         (NamesPlace (PaysEdges s.unfolded.now s.machine.now s.classes.now s.certificate.now node) 3 node) }
     ensures right { let s = subject.now in
-        AreRight table.new work.new.pool s.machine.now s.unfolded.now work.new.memo }
+        IsRight table.new s.unfolded.now s.machine.now work.new }
     ensures kept { Keeps table.old table.new }
 {
-    let charges = charges_at(table.allocator(), subject, node)?;
+    exits_stay();
+    let charged = charged_at(table, subject, node)?;
     let site = Site {
         node,
         classes: classes_at(subject.classes, node),
-        charges: charges.as_slice(),
+        charged,
     };
     let family = family_of(subject.certificate, node);
     let costs = family_costs(table, work, subject, &site, stretch, family)?;
@@ -295,7 +270,7 @@ pub(crate) fn all_costs(
     requires prices { let s = subject.now in
         ArePrices s.certificate.now s.unfolded.now s.prices.now.entering s.prices.now.returning }
     requires right { let s = subject.now in
-        AreRight table.old work.old.pool s.machine.now s.unfolded.now work.old.memo }
+        IsRight table.old s.unfolded.now s.machine.now work.old }
     ensures costs { let s = subject.now in IfOk result (λ costs.
         AreCosts table.new s.unfolded.now s.machine.now s.certificate.now.families costs.items) }
     ensures pays { let s = subject.now in OnOk result

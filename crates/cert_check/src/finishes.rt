@@ -3,7 +3,7 @@
 ghost use Rattle.std.specs.Prelude.{◌≡◌, ◌<◌, ℕ, List, length, slice_get, All, Decides, Some, IfErr, IfOk};
 ghost use Rattle.std.specs.Prelude.{MatchOption, OnOk};
 ghost use Rattle.xdd_table.specs.Diagram.{Keeps};
-ghost use Rattle.pipe_block.specs.Kept.{AreRight};
+ghost use Rattle.node_exits.specs.NodeExits.{IsRight};
 ghost use Rattle.cert_text.specs.declared.certificate.CertVector.{CertVector as VectorOf};
 ghost use Rattle.cert_rules.specs.Rules.{IsSmallVector, PaysFinish};
 ghost use Rattle.cert_rules.specs.Judged.{HoldsForAll};
@@ -11,43 +11,19 @@ ghost use Rattle.cert_check.specs.Places.{AreFinishes, AreNodeFinishes, IsFinish
 ghost use Rattle.cert_check.specs.Judging.{FamilyPays, HasCharges, IsSite, IsSubject, NamesFirst, NamesPlace};
 ghost use Rattle.cert_check.specs.Judging.{VectorPaysFinish};
 
-use crate::charging::charges_at;
+use crate::charging::charged_at;
 use crate::checked::Finishes;
 use crate::refused::Refused;
 use crate::subject::{Site, Subject, classes_at, family_of, offer_at};
-use crate::work::{Work, times_at};
+use crate::work::finish_from;
 use cert_judge::pays_finish;
 use cert_text::CertVector;
-use pipe_block::{finish, kept_answers_stay};
+use node_exits::{Work, exits_stay};
 use wx_text::{List, NoMemory};
 use xdd_table::{Dd, Table};
 
 /// The number of the rule.
 const RULE: u64 = 2;
-
-/// The finish of a node's block from a vector.
-fn finish_at(
-    table: &mut Table,
-    work: &mut Work,
-    subject: &Subject,
-    node: u32,
-    v: &CertVector,
-) -> Result<Dd, NoMemory>
-    requires subject { let s = subject.now in
-        IsSubject s.unfolded.now s.machine.now s.classes.now s.certificate.now }
-    requires node { node < length subject.now.unfolded.now.nodes }
-    requires small { IsSmallVector v.now }
-    requires right { let s = subject.now in
-        AreRight table.old work.old.pool s.machine.now s.unfolded.now work.old.memo }
-    ensures finish { let s = subject.now in
-        IfOk result (IsFinish table.new s.unfolded.now s.machine.now node v.now) }
-    ensures right { let s = subject.now in
-        AreRight table.new work.new.pool s.machine.now s.unfolded.now work.new.memo }
-    ensures kept { Keeps table.old table.new }
-{
-    let times = times_at(table, work, subject, node, v)?;
-    Ok(finish(&times))
-}
 
 /// Whether a vector pays for this finish.
 fn finish_pays(
@@ -58,7 +34,8 @@ fn finish_pays(
     v: &CertVector,
 ) -> Result<bool, NoMemory>
     requires site { let s = subject.now in
-        IsSite s.unfolded.now s.classes.now s.certificate.now site.now.node site.now.classes.now site.now.charges.now }
+        IsSite table.old s.unfolded.now s.classes.now s.certificate.now site.now.node site.now.classes.now
+        site.now.charged }
     requires small { IsSmallVector v.now }
     requires finish { let s = subject.now in
         IsFinish table.old s.unfolded.now s.machine.now site.now.node v.now end }
@@ -80,21 +57,22 @@ fn paid_finish(
     requires subject { let s = subject.now in
         IsSubject s.unfolded.now s.machine.now s.classes.now s.certificate.now }
     requires site { let s = subject.now in
-        IsSite s.unfolded.now s.classes.now s.certificate.now site.now.node site.now.classes.now site.now.charges.now }
+        IsSite table.old s.unfolded.now s.classes.now s.certificate.now site.now.node site.now.classes.now
+        site.now.charged }
     requires node { site.now.node < length subject.now.unfolded.now.nodes }
     requires small { IsSmallVector v.now }
     requires right { let s = subject.now in
-        AreRight table.old work.old.pool s.machine.now s.unfolded.now work.old.memo }
+        IsRight table.old s.unfolded.now s.machine.now work.old }
     ensures finish { let s = subject.now in
         let pays = VectorPaysFinish s.unfolded.now s.machine.now s.classes.now s.certificate.now site.now.node v.now in
         IfOk result (λ found. MatchOption found (pays → ⊥)
         (λ d. pays × IsFinish table.new s.unfolded.now s.machine.now site.now.node v.now d)) }
     ensures right { let s = subject.now in
-        AreRight table.new work.new.pool s.machine.now s.unfolded.now work.new.memo }
+        IsRight table.new s.unfolded.now s.machine.now work.new }
     ensures kept { Keeps table.old table.new }
 {
-    kept_answers_stay();
-    let end = finish_at(table, work, subject, site.node, v)?;
+    exits_stay();
+    let end = finish_from(table, work, subject, site.node, v)?;
     let pays = finish_pays(table, end, subject, site, v)?;
     if pays { Ok(Some(end)) } else { Ok(None) }
 }
@@ -110,11 +88,12 @@ fn family_finishes(
     requires subject { let s = subject.now in
         IsSubject s.unfolded.now s.machine.now s.classes.now s.certificate.now }
     requires site { let s = subject.now in
-        IsSite s.unfolded.now s.classes.now s.certificate.now site.now.node site.now.classes.now site.now.charges.now }
+        IsSite table.old s.unfolded.now s.classes.now s.certificate.now site.now.node site.now.classes.now
+        site.now.charged }
     requires node { site.now.node < length subject.now.unfolded.now.nodes }
     requires small { All IsSmallVector family.now }
     requires right { let s = subject.now in
-        AreRight table.old work.old.pool s.machine.now s.unfolded.now work.old.memo }
+        IsRight table.old s.unfolded.now s.machine.now work.old }
     ensures finishes { let s = subject.now in IfOk result (λ finishes.
         AreNodeFinishes table.new s.unfolded.now s.machine.now site.now.node family.now finishes.items) }
     ensures pays { let s = subject.now in
@@ -124,7 +103,7 @@ fn family_finishes(
         let pays = VectorPaysFinish s.unfolded.now s.machine.now s.classes.now s.certificate.now site.now.node in
         IfErr result (NamesPlace (FamilyPays pays family.now) 2 site.now.node) }
     ensures right { let s = subject.now in
-        AreRight table.new work.new.pool s.machine.now s.unfolded.now work.new.memo }
+        IsRight table.new s.unfolded.now s.machine.now work.new }
     ensures kept { Keeps table.old table.new }
 {
     let mut finishes = Vec::new(table.allocator());
@@ -155,7 +134,7 @@ fn node_finishes(
     requires charges { HasCharges subject.now.charges.now subject.now.certificate.now.charges }
     requires node { node < length subject.now.unfolded.now.nodes }
     requires right { let s = subject.now in
-        AreRight table.old work.old.pool s.machine.now s.unfolded.now work.old.memo }
+        IsRight table.old s.unfolded.now s.machine.now work.old }
     ensures finishes { let s = subject.now in (family : List VectorOf)
         → slice_get s.certificate.now.families node ≡ Some family
         → IfOk result (AreNodeFinishes table.new s.unfolded.now s.machine.now node family) }
@@ -164,14 +143,15 @@ fn node_finishes(
     ensures refused { let s = subject.now in IfErr result
         (NamesPlace (PaysFinish s.unfolded.now s.machine.now s.classes.now s.certificate.now node) 2 node) }
     ensures right { let s = subject.now in
-        AreRight table.new work.new.pool s.machine.now s.unfolded.now work.new.memo }
+        IsRight table.new s.unfolded.now s.machine.now work.new }
     ensures kept { Keeps table.old table.new }
 {
-    let charges = charges_at(table.allocator(), subject, node)?;
+    exits_stay();
+    let charged = charged_at(table, subject, node)?;
     let site = Site {
         node,
         classes: classes_at(subject.classes, node),
-        charges: charges.as_slice(),
+        charged,
     };
     let family = family_of(subject.certificate, node);
     let finishes = family_finishes(table, work, subject, &site, family)?;
@@ -188,7 +168,7 @@ pub(crate) fn all_finishes(
         IsSubject s.unfolded.now s.machine.now s.classes.now s.certificate.now }
     requires charges { HasCharges subject.now.charges.now subject.now.certificate.now.charges }
     requires right { let s = subject.now in
-        AreRight table.old work.old.pool s.machine.now s.unfolded.now work.old.memo }
+        IsRight table.old s.unfolded.now s.machine.now work.old }
     ensures finishes { let s = subject.now in IfOk result (λ finishes.
         AreFinishes table.new s.unfolded.now s.machine.now s.certificate.now.families finishes.items) }
     ensures pays { let s = subject.now in OnOk result
@@ -196,7 +176,7 @@ pub(crate) fn all_finishes(
     ensures refused { let s = subject.now in IfErr result
         (NamesFirst (PaysFinish s.unfolded.now s.machine.now s.classes.now s.certificate.now) 2) }
     ensures right { let s = subject.now in
-        AreRight table.new work.new.pool s.machine.now s.unfolded.now work.new.memo }
+        IsRight table.new s.unfolded.now s.machine.now work.new }
     ensures kept { Keeps table.old table.new }
 {
     let mut all = Vec::new(table.allocator());

@@ -4,9 +4,7 @@
 mod charging;
 mod checked;
 mod edges;
-mod exits;
 mod finishes;
-mod leaving;
 mod ranges;
 mod refused;
 mod rules;

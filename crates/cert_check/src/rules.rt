@@ -20,7 +20,6 @@ use crate::edges::all_costs;
 use crate::finishes::all_finishes;
 use crate::refused::Refused;
 use crate::subject::Subject;
-use crate::work::Work;
 use cache_class::{Classes, classify};
 use cert_prices::{
     ChargeTable, TotalCounts, edge_prices, has_bound, has_shape, has_small_numbers, has_start,
@@ -28,7 +27,7 @@ use cert_prices::{
 };
 use cert_text::Certificate;
 use flow_ctx::Unfolded;
-use pipe_block::kept_answers_stay;
+use node_exits::Work;
 use std::alloc::Global;
 use wx_base::Machine;
 use wx_text::List;
@@ -101,7 +100,6 @@ fn judge_vectors(table: &mut Table, subject: &Subject) -> Result<Diagrams, Refus
         (Breaks s.unfolded.now s.machine.now s.classes.now s.certificate.now) }
     ensures kept { Keeps table.old table.new }
 {
-    kept_answers_stay();
     let mut work = Work::new(table.allocator());
     let finishes = all_finishes(table, &mut work, subject)?;
     let costs = all_costs(table, &mut work, subject)?;

@@ -8,6 +8,7 @@ use cert_prices::{ChargeTable, EdgePrices};
 use cert_text::{CertVector, Certificate};
 use flow_ctx::Unfolded;
 use wx_base::Machine;
+use xdd_table::Dd;
 
 /// A certificate, and what it is a certificate for.
 #[derive(Clone, Copy)]
@@ -29,8 +30,8 @@ pub(crate) struct Site<'a> {
     pub node: u32,
     /// The classes of the block's events, by their numbers.
     pub classes: &'a [Class],
-    /// What a miss of each event is charged, in cycles.
-    pub charges: &'a [u64],
+    /// What the misses of the block are charged, in cycles, as a diagram over its events.
+    pub charged: Dd,
 }
 
 /// The edges of a node, by their numbers.
@@ -61,12 +62,12 @@ pub(crate) fn family_of(c: &Certificate, node: u32) -> &[CertVector]
 /// What a vector with a potential has to pay with in a node.
 pub(crate) fn offer_at<'a>(site: &Site<'a>, potential: u64) -> Offer<'a>
     ensures classes { result.classes.now ≡ site.now.classes.now }
-    ensures charges { result.charges.now ≡ site.now.charges.now }
+    ensures charged { result.charged ≡ site.now.charged }
     ensures potential { result.potential ≡ potential }
 {
     Offer {
         classes: site.classes,
-        charges: site.charges,
+        charged: site.charged,
         potential,
     }
 }

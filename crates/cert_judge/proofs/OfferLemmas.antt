@@ -1,10 +1,13 @@
 -- What misses are charged: at settled combinations, by each event's charge, and at most.
-use Rattle.std.proofs.Common.{◌≡◌, ℕ, suc, ◌+◌, ◌*◌, ◌<◌, ◌≤◌, Bool, true, false, List, [], ◌∷◌, length, get_or, drop, slice_get, Some, if◌then◌else◌, refl, ap, arith}
+use Rattle.std.proofs.Common.{◌≡◌, ℕ, suc, ◌+◌, ◌*◌, ◌<◌, ◌≤◌, Bool, true, false, List, [], ◌∷◌, length, get_or, drop, slice_get, Some, if◌then◌else◌, Result, Ok, Err, IfOk, refl, sym, ◌∙◌, arith}
 use Rattle.flow_block.specs.declared.block.Slot.{Slot}
 use Rattle.cache_class.specs.declared.class.Class.{Class}
 use Rattle.cache_class.specs.declared.class.Class.TheVariants.{AlwaysHit, AlwaysMiss, FirstMiss, Open}
-use Rattle.xdd_table.specs.Diagram.{Combination}
-use Rattle.cert_judge.specs.Offers.{charge_of, charged_from, offered}
+use Rattle.xdd_table.specs.declared.node.Dd.{Dd}
+use Rattle.xdd_table.specs.declared.node.Node.{Node}
+use Rattle.xdd_table.specs.Diagram.{Combination, time}
+use Rattle.flow_block.specs.Blocks.{most_slots}
+use Rattle.cert_judge.specs.Offers.{IsCharged, charge_of, charged_from}
 use Rattle.cert_judge.specs.Settled.{settled_miss, settled}
 use Rattle.cert_judge.specs.Laws.{missed_from, MissesAreCharged}
 
@@ -27,9 +30,9 @@ alike_from charges number f g (class ∷ classes) same =
     alike_from charges (number + 1) f g classes (λ i e c is at. same (suc i) e c is (omega arith)) in
     rw (here, charged_alike class (get_or charges number 0) (f number), further)
 
--- what is offered at a settled combination is what is offered before
-pub offered_settled : (classes : List Class) (charges : List ℕ) (potential : ℕ) (f : Combination) → offered classes charges potential (settled classes f) ≡ offered classes charges potential f
-offered_settled classes charges potential f = ap (λ n. potential + n) (alike_from charges 0 f (settled classes f) classes (λ i e class is at. at_event i e class is (omega arith)))
+-- what is charged at a settled combination is what is charged before
+pub charged_settled : (classes : List Class) (charges : List ℕ) (f : Combination) → charged_from charges 0 (settled classes f) classes ≡ charged_from charges 0 f classes
+charged_settled classes charges f = alike_from charges 0 f (settled classes f) classes (λ i e class is at. at_event i e class is (omega arith))
   where
     at_event : (i e : ℕ) (class : Class) → slice_get classes i ≡ Some class → e ≡ i → settled_miss (slice_get classes e) (f e) ≡ settled_miss (Some class) (f e)
     at_event i e class is at = rw (at, is)
@@ -75,20 +78,28 @@ charged_small charges number bound f (class ∷ classes) small =
     sum_small : (a b n m : ℕ) → a ≤ m → b ≤ n * m → a + b ≤ suc n * m
     sum_small a b n m h k = grind arith
 
--- what is offered from an event on, by that of the events behind it
-pub offered_more : (charges : List ℕ) (number : ℕ) (f : Combination) (class : Class) (classes rest : List Class) (potential a b t : ℕ) → drop number classes ≡ class ∷ rest
-    → a ≡ potential + charged_from charges (number + 1) f rest → b ≡ (if f number then charge_of class (get_or charges number 0) else 0) → t ≡ a + b
-    → t ≡ potential + charged_from charges number f (drop number classes)
-offered_more charges number f class classes rest potential a b t front a_is b_is t_is =
-    rw front (sum_is potential (if f number then charge_of class (get_or charges number 0) else 0) (charged_from charges (number + 1) f rest) a b t a_is b_is t_is)
-  where
-    sum_is : (potential here further a b t : ℕ) → a ≡ potential + further → b ≡ here → t ≡ a + b → t ≡ potential + (here + further)
-    sum_is potential here further a b t x y z = omega arith
+-- a charge that is taken, or nothing
+pub if_at_most : (charge : ℕ) (miss : Bool) → (if miss then charge else 0) ≤ charge
+if_at_most charge true = omega arith
+if_at_most charge false = omega arith
 
--- no offer is too large for a word, nor is it with one more charge
-pub offer_fits : (charges : List ℕ) (number bound limit potential a b : ℕ) (f : Combination) (classes : List Class) → ((e : ℕ) → get_or charges e 0 ≤ bound) → length classes ≤ 12
-    → potential ≤ bound → b ≤ bound → 14 * bound < limit → a ≡ potential + charged_from charges number f classes → a + b < limit
-offer_fits charges number bound limit potential a b f classes small few p_small b_small fits a_is =
+pub if_nothing : (charge : ℕ) (miss : Bool) → charge ≡ 0 → (if miss then charge else 0) ≡ 0
+if_nothing charge true is = is
+if_nothing charge false is = refl
+
+pub taken_at_most : (class : Class) (charge bound taken : ℕ) → charge ≤ bound → taken ≡ charge_of class charge → taken ≤ bound
+taken_at_most class charge bound taken le is = let most : charge_of class charge ≤ bound = charge_of_small class charge bound le in omega (arith, most, is)
+
+-- what is charged from an event on, by that of the events behind it
+pub charged_more : (charges : List ℕ) (number : ℕ) (f : Combination) (class : Class) (classes rest : List Class) (a taken t : ℕ) → drop number classes ≡ class ∷ rest
+    → a ≡ charged_from charges (number + 1) f rest → taken ≡ charge_of class (get_or charges number 0) → t ≡ (if f number then taken else 0) + a
+    → t ≡ charged_from charges number f (drop number classes)
+charged_more charges number f class classes rest a taken t front a_is taken_is t_is = rw front (t_is ∙ rw (a_is, taken_is) refl)
+
+-- what is charged fits a word, and does with one more charge
+pub charged_fits : (charges : List ℕ) (number bound limit a b : ℕ) (f : Combination) (classes : List Class) → ((e : ℕ) → get_or charges e 0 ≤ bound) → length classes ≤ 12
+    → b ≤ bound → 13 * bound < limit → a ≡ charged_from charges number f classes → a + b < limit
+charged_fits charges number bound limit a b f classes small few b_small fits a_is =
     let most : charged_from charges number f classes ≤ length classes * bound = charged_small charges number bound f classes small in
     let product : length classes * bound ≤ 12 * bound = times_less (length classes) 12 bound few in
     omega arith
@@ -96,7 +107,12 @@ offer_fits charges number bound limit potential a b f classes small few p_small 
     times_less : (a b n : ℕ) → a ≤ b → a * n ≤ b * n
     times_less a b n le = grind arith
 
--- a charge that is taken, or nothing, is small
-pub taken_small : (class : Class) (charge bound taken : ℕ) (miss : Bool) → charge ≤ bound → taken ≡ charge_of class charge → (if miss then taken else 0) ≤ bound
-taken_small class charge bound taken true le is = let most : charge_of class charge ≤ bound = charge_of_small class charge bound le in omega arith
-taken_small class charge bound taken false le is = omega arith
+-- the diagram of what is charged is one of charges
+pub charged_is : {E : Type 0} (nodes : List Node) (classes : List Class) (charges : List ℕ) (r : Result Dd E) → length classes ≤ most_slots → IfOk r (λ d. d.place < length nodes)
+    → IfOk r (λ d. (f : Combination) → time nodes f d.place ≡ charged_from charges 0 f classes) → IfOk r (IsCharged nodes classes)
+charged_is nodes classes charges (Ok d) few within times = record {
+  few = few;
+  within = within;
+  alike = λ f. times (settled classes f) ∙ (charged_settled classes charges f ∙ sym (times f));
+}
+charged_is nodes classes charges (Err e) few within times = tt

@@ -1,5 +1,5 @@
 -- From what diagrams, pairs and outcomes tell to all combinations that classes allow.
-use Rattle.std.proofs.Common.{◌≡◌, ℕ, ◌+◌, ◌-◌, ◌<◌, ◌↔◌, Bool, List, [], length, slice_get, Some, None, IsTrue, Result, Ok, Err, IfOk, sym, ap, subst, ◌∙◌, inl, inr, arith}
+use Rattle.std.proofs.Common.{◌≡◌, ℕ, ◌+◌, ◌-◌, ◌<◌, ◌≤◌, ◌↔◌, Bool, List, [], length, slice_get, Some, None, IsTrue, Result, Ok, Err, IfOk, sym, ap, subst, ◌∙◌, inl, inr, arith}
 use Rattle.std.proofs.lemmas.Option.{slice_get_within, slice_get_past}
 use Rattle.std.proofs.lemmas.Bool.{cases_lt}
 use Rattle.wx_text.specs.declared.memory.NoMemory.{NoMemory}
@@ -8,67 +8,64 @@ use Rattle.cert_text.specs.declared.certificate.CertVector.{CertVector}
 use Rattle.xdd_table.specs.declared.node.Node.{Node}
 use Rattle.xdd_table.specs.Diagram.{Combination, time}
 use Rattle.xdd_ops.specs.Pairs.{AddsOnly}
-use Rattle.pipe_block.specs.declared.diagrams.BlockExit.{BlockExit}
 use Rattle.pipe_block.specs.declared.diagrams.Outcome.{Outcome}
-use Rattle.pipe_block.specs.Times.{times_at}
-use Rattle.pipe_block.specs.Outcomes.{outcome_at}
+use Rattle.pipe_block.specs.declared.diagrams.Leaving.{Leaving}
 use Rattle.cert_judge.specs.Settled.{settled}
 use Rattle.cert_judge.specs.Payments.{PaysForFinish, LeadsOn, PaysInto, PaysForEdge, PairPays, AllPay}
 use Rattle.cert_judge.proofs.SettledLemmas.{settled_allowed, settled_is_allowed}
 
--- the offer does not change as a combination is settled, and the first diagram has the finish at settled combinations
-module _ (nodes : List Node) (classes : List Class) (offer : Combination → ℕ) (alike : (f : Combination) → offer (settled classes f) ≡ offer f) where
-  pub finish_pays : (finish : ℕ) (within : Bool) (a b : Combination → ℕ) → ((f : Combination) → a f ≡ time nodes (settled classes f) finish) → ((f : Combination) → b f ≡ offer f)
-      → (IsTrue within ↔ ((f : Combination) → a f - b f ≡ 0)) → IsTrue within ↔ PaysForFinish nodes classes offer finish
-  finish_pays finish within a b a_is b_is tells = (pays, back)
+-- a test of the excess over what is charged
+pub finish_pays : (nodes : List Node) (classes : List Class) (charge : Combination → ℕ) (potential finish : ℕ) (needed given : Combination → ℕ) (within : Bool)
+    → ((f : Combination) → charge (settled classes f) ≡ charge f) → ((f : Combination) → needed f ≡ time nodes (settled classes f) finish)
+    → ((f : Combination) → given f ≡ charge f) → (IsTrue within ↔ ((f : Combination) → needed f - given f ≤ potential))
+    → IsTrue within ↔ PaysForFinish nodes classes (λ f. potential + charge f) finish
+finish_pays nodes classes charge potential finish needed given within alike needed_is given_is tells = (pays, back)
+  where
+    pays : IsTrue within → PaysForFinish nodes classes (λ f. potential + charge f) finish
+    pays t = record {
+      each = λ f allowed.
+          let here : needed f ≡ time nodes f finish = needed_is f ∙ ap (λ (g : Combination). time nodes g finish) (settled_allowed classes f allowed) in
+          omega (arith, here, given_is f, tells.0 t f);
+    }
+
+    back : PaysForFinish nodes classes (λ f. potential + charge f) finish → IsTrue within
+    back p = tells.1 (λ f. omega (arith, needed_is f, given_is f, alike f, p.each (settled classes f) (settled_is_allowed classes f)))
+
+-- each position of the diagram is one in the list, and each pair is that of a combination
+module _ (nodes : List Node) (classes : List Class) (charge : Combination → ℕ) (leaving : Leaving) (pairs : List (ℕ × ℕ)) (a b : Combination → ℕ)
+    (a_is : (f : Combination) → a f ≡ time nodes (settled classes f) leaving.place.place) (b_is : (f : Combination) → b f ≡ charge f)
+    (only : (i : ℕ) (x : ℕ × ℕ) → slice_get pairs i ≡ Some x → (f : Combination) × (x ≡ (a f, b f))) where
+  pub listed : ((f : Combination) → time nodes f leaving.place.place < length leaving.list) → (i : ℕ) (x : ℕ × ℕ) → slice_get pairs i ≡ Some x → x.0 < length leaving.list
+  listed within i x is =
+      let w = only i x is in
+      let e : x.0 ≡ time nodes (settled classes w.0) leaving.place.place = ap (λ (y : ℕ × ℕ). y.0) w.1 ∙ a_is w.0 in
+      rw e (within (settled classes w.0))
+
+  pub edge_pays : (all : Bool) (potential : ℕ) (Pays : ℕ → ℕ → List ℕ → Type 0) → ((f : Combination) → charge (settled classes f) ≡ charge f)
+      → ((f : Combination) → (i : ℕ) × (slice_get pairs i ≡ Some (a f, b f)))
+      → (IsTrue all ↔ AllPay pairs leaving.list (λ n. Pays (potential + n)))
+      → IsTrue all ↔ PaysForEdge nodes classes (λ f. potential + charge f) leaving Pays
+  edge_pays all potential Pays alike has tells = (pays, back)
     where
-      pays : IsTrue within → PaysForFinish nodes classes offer finish
+      pays : IsTrue all → PaysForEdge nodes classes (λ f. potential + charge f) leaving Pays
       pays t = record {
-        each = λ f allowed.
-            let a_f : a f ≡ time nodes f finish = a_is f ∙ ap (λ (g : Combination). time nodes g finish) (settled_allowed classes f allowed) in
-            omega (arith, a_f, b_is f, tells.0 t f);
+        each = λ f o allowed at.
+            let here : a f ≡ time nodes f leaving.place.place = a_is f ∙ ap (λ (g : Combination). time nodes g leaving.place.place) (settled_allowed classes f allowed) in
+            let stands : slice_get leaving.list (a f) ≡ Some o = ap (λ n. slice_get leaving.list n) here ∙ at in
+            subst (λ (n : ℕ). Pays (potential + n) o.cost o.vector.slots) (b_is f) (((tells.0 t).each (has f).0).each (a f, b f) o (has f).1 stands);
       }
 
-      back : PaysForFinish nodes classes offer finish → IsTrue within
-      back p = tells.1 (λ f. omega (arith, a_is f, b_is f, alike f, p.each (settled classes f) (settled_is_allowed classes f)))
-
-  -- outcomes stand in a list at their positions, and each pair is that of a combination
-  module _ (exit : BlockExit) (list : List Outcome) (position : Combination → ℕ) (pairs : List (ℕ × ℕ)) (a b : Combination → ℕ)
-      (outcome_is : (f : Combination) → slice_get list (position f) ≡ Some (outcome_at nodes exit f))
-      (a_is : (f : Combination) → a f ≡ position (settled classes f)) (b_is : (f : Combination) → b f ≡ offer f)
-      (only : (i : ℕ) (x : ℕ × ℕ) → slice_get pairs i ≡ Some x → (f : Combination) × (x ≡ (a f, b f))) where
-    pub listed : (i : ℕ) (x : ℕ × ℕ) → slice_get pairs i ≡ Some x → x.0 < length list
-    listed i x is =
-        let w = only i x is in
-        let e : x.0 ≡ position (settled classes w.0) = ap (λ (y : ℕ × ℕ). y.0) w.1 ∙ a_is w.0 in
-        rw e (slice_get_within list (position (settled classes w.0)) (outcome_at nodes exit (settled classes w.0)) (outcome_is (settled classes w.0)))
-
-    pub edge_pays : (all : Bool) (Pays : ℕ → ℕ → List ℕ → Type 0) → ((f : Combination) → (i : ℕ) × (slice_get pairs i ≡ Some (a f, b f)))
-        → (IsTrue all ↔ AllPay pairs list Pays) → IsTrue all ↔ PaysForEdge nodes classes offer exit Pays
-    edge_pays all Pays has tells = (pays, back)
-      where
-        pays : IsTrue all → PaysForEdge nodes classes offer exit Pays
-        pays t = record {
-          each = λ f allowed.
-              let a_f : a f ≡ position f = a_is f ∙ ap position (settled_allowed classes f allowed) in
-              let stands : slice_get list (a f) ≡ Some (outcome_at nodes exit f) = ap (λ n. slice_get list n) a_f ∙ outcome_is f in
-              let paid = ((tells.0 t).each (has f).0).each (a f, b f) (outcome_at nodes exit f) (has f).1 stands in
-              subst (λ (n : ℕ). Pays n (time nodes f exit.cost.place) (times_at nodes f exit.slots)) (b_is f) paid;
-        }
-
-        back : PaysForEdge nodes classes offer exit Pays → IsTrue all
-        back p = tells.1 (record { each = λ i. record { each = λ x o there is. paid i x o there is } })
-          where
-            paid : (i : ℕ) (x : ℕ × ℕ) (o : Outcome) → slice_get pairs i ≡ Some x → slice_get list x.0 ≡ Some o → Pays x.1 o.cost o.vector.slots
-            paid i x o there is =
-                let w = only i x there in
-                let g : Combination = settled classes w.0 in
-                let first : x.0 ≡ position g = ap (λ (y : ℕ × ℕ). y.0) w.1 ∙ a_is w.0 in
-                let second : x.1 ≡ offer g = ap (λ (y : ℕ × ℕ). y.1) w.1 ∙ (b_is w.0 ∙ sym (alike w.0)) in
-                let here : slice_get list x.0 ≡ Some (outcome_at nodes exit g) = ap (λ n. slice_get list n) first ∙ outcome_is g in
-                let same : outcome_at nodes exit g ≡ o = cc in
-                subst (λ (y : Outcome). Pays x.1 y.cost y.vector.slots) same
-                (subst (λ (n : ℕ). Pays n (time nodes g exit.cost.place) (times_at nodes g exit.slots)) (sym second) (p.each g (settled_is_allowed classes w.0)))
+      back : PaysForEdge nodes classes (λ f. potential + charge f) leaving Pays → IsTrue all
+      back p = tells.1 (record { each = λ i. record { each = λ x o there is. paid i x o there is } })
+        where
+          paid : (i : ℕ) (x : ℕ × ℕ) (o : Outcome) → slice_get pairs i ≡ Some x → slice_get leaving.list x.0 ≡ Some o → Pays (potential + x.1) o.cost o.vector.slots
+          paid i x o there is =
+              let w = only i x there in
+              let g : Combination = settled classes w.0 in
+              let first : x.0 ≡ time nodes g leaving.place.place = ap (λ (y : ℕ × ℕ). y.0) w.1 ∙ a_is w.0 in
+              let second : x.1 ≡ charge g = ap (λ (y : ℕ × ℕ). y.1) w.1 ∙ (b_is w.0 ∙ sym (alike w.0)) in
+              let here : slice_get leaving.list (time nodes g leaving.place.place) ≡ Some o = ap (λ n. slice_get leaving.list n) (sym first) ∙ is in
+              subst (λ (n : ℕ). Pays (potential + n) o.cost o.vector.slots) (sym second) (p.each g o (settled_is_allowed classes w.0) here)
 
 -- what is told of an answer tells more
 pub ok_more : (r : Result Bool NoMemory) (P Q : Bool → Type 0) → ((b : Bool) → P b → Q b) → IfOk r P → IfOk r Q

@@ -1,4 +1,4 @@
-pub mod Offers
 pub mod Settled
+pub mod Offers
 pub mod Payments
 pub mod Laws

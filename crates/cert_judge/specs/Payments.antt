@@ -7,9 +7,8 @@ use Rattle.cache_class.specs.Allowed.{IsAllowed}
 use Rattle.cert_text.specs.declared.certificate.CertVector.{CertVector}
 use Rattle.xdd_table.specs.declared.node.Node.{Node}
 use Rattle.xdd_table.specs.Diagram.{Combination, time}
-use Rattle.pipe_block.specs.declared.diagrams.BlockExit.{BlockExit}
 use Rattle.pipe_block.specs.declared.diagrams.Outcome.{Outcome}
-use Rattle.pipe_block.specs.Times.{times_at}
+use Rattle.pipe_block.specs.declared.diagrams.Leaving.{Leaving}
 
 -- the finish, which is the diagram at a place, is never more than what is offered
 pub record PaysForFinish (nodes : List Node) (classes : List Class) (offered : Combination → ℕ) (finish : ℕ)
@@ -29,13 +28,13 @@ pub record PaysInto (family : List CertVector) (entering returning offer cost : 
   pub listed : slice_get family place ≡ Some next
   pub leads : LeadsOn next (cost + entering) (offer + returning) slots
 
--- what is offered always pays for the exit; `Pays` says this of an offer, a cost and slots
-pub record PaysForEdge (nodes : List Node) (classes : List Class) (offered : Combination → ℕ) (exit : BlockExit)
+-- what is offered always pays for what a block hands on; `Pays` says this of an offer, a cost and slots
+pub record PaysForEdge (nodes : List Node) (classes : List Class) (offered : Combination → ℕ) (leaving : Leaving)
     (Pays : ℕ → ℕ → List ℕ → Type 0) : Type 0 where
-  pub each : (f : Combination) → IsAllowed classes f
-      → Pays (offered f) (time nodes f exit.cost.place) (times_at nodes f exit.slots)
+  pub each : (f : Combination) (o : Outcome) → IsAllowed classes f
+      → slice_get leaving.list (time nodes f leaving.place.place) ≡ Some o → Pays (offered f) o.cost o.vector.slots
 
--- of the pair at a position, if there is one, the second, as an offer, pays for the outcome at the first
+-- of the pair at a position, if there is one, the second, as what is charged, pays for the outcome at the first
 pub record PairPays (pairs : List (ℕ × ℕ)) (outcomes : List Outcome) (Pays : ℕ → ℕ → List ℕ → Type 0) (i : ℕ)
     : Type 0 where
   pub each : (x : ℕ × ℕ) (o : Outcome) → slice_get pairs i ≡ Some x → slice_get outcomes x.0 ≡ Some o

@@ -1,13 +1,12 @@
-ghost use Rattle.std.specs.Prelude.{◌≡◌, ◌↔◌, ℕ, ◌+◌, ◌∷◌, ◌<◌, ◌^◌, length, slice_get, Some, IsTrue, IfOk};
-ghost use Rattle.pipe_block.specs.Times.{AreDiagrams};
-ghost use Rattle.xdd_table.specs.Diagram.{Keeps};
-ghost use Rattle.cert_judge.specs.Offers.{offered, IsOffer};
+ghost use Rattle.std.specs.Prelude.{◌≡◌, ◌↔◌, ℕ, ◌+◌, ◌<◌, ◌^◌, length, slice_get, Some, IsTrue, IfOk};
+ghost use Rattle.xdd_table.specs.Diagram.{Combination, time, Keeps};
+ghost use Rattle.cert_judge.specs.Offers.{offered, IsCharged};
 ghost use Rattle.cert_judge.specs.Payments.{LeadsOn, PaysInto, PaysForEdge, PairPays, AllPay};
 
-use crate::offer::{Offer, offer_diagram};
+use crate::offer::Offer;
 use crate::settling::settle;
 use cert_text::CertVector;
-use pipe_block::{BlockExit, Outcome, outcomes};
+use pipe_block::{Leaving, Outcome};
 use pipe_time::{Vector, covers};
 use wx_base::NoMemory;
 use xdd_ops::{Pairs, zip};
@@ -32,15 +31,15 @@ fn leads_on(next: &CertVector, needed: u128, given: u128, vector: &Vector) -> bo
     needed + u128::from(next.potential) <= given && covers(&next.slots, vector)
 }
 
-/// Whether an offer pays for an outcome and for going on from a listed vector that covers it.
-fn pays_into(crossing: &Crossing, outcome: &Outcome, offer: u64) -> bool
+/// Whether a potential and what is charged pay for an outcome and for going on from a listed vector that covers it.
+fn pays_into(crossing: &Crossing, outcome: &Outcome, potential: u64, charge: u64) -> bool
     requires entering { crossing.now.entering < 2 ^ 127 }
     requires returning { crossing.now.returning < 2 ^ 127 }
-    ensures { let c = crossing.now in IsTrue result
-        ↔ PaysInto c.family.now c.entering c.returning offer outcome.now.cost outcome.now.vector.slots }
+    ensures { let c = crossing.now in IsTrue result ↔ PaysInto c.family.now c.entering c.returning
+        (potential + charge) outcome.now.cost outcome.now.vector.slots }
 {
     let needed = u128::from(outcome.cost) + crossing.entering;
-    let given = u128::from(offer) + crossing.returning;
+    let given = u128::from(potential) + u128::from(charge) + crossing.returning;
     for next in crossing.family {
         if leads_on(next, needed, given, &outcome.vector) {
             return true;
@@ -49,30 +48,38 @@ fn pays_into(crossing: &Crossing, outcome: &Outcome, offer: u64) -> bool
     false
 }
 
-/// Whether the pair at a position, which is the position of an outcome and an offer, is one that pays.
-fn pair_pays(pairs: &Pairs, i: u64, outcomes: &[Outcome], crossing: &Crossing) -> bool
+/// Whether the pair at a position, which is the position of an outcome and a charge, is one that pays.
+fn pair_pays(
+    pairs: &Pairs,
+    i: u64,
+    outcomes: &[Outcome],
+    potential: u64,
+    crossing: &Crossing,
+) -> bool
     requires listed { (x : ℕ × ℕ) → slice_get pairs.now i ≡ Some x → x.0 < length outcomes.now }
     requires entering { crossing.now.entering < 2 ^ 127 }
     requires returning { crossing.now.returning < 2 ^ 127 }
-    ensures { let c = crossing.now in IsTrue result
-        ↔ PairPays pairs.now outcomes.now (PaysInto c.family.now c.entering c.returning) i }
+    ensures { let c = crossing.now in IsTrue result ↔ PairPays pairs.now outcomes.now
+        (λ charge. PaysInto c.family.now c.entering c.returning (potential + charge)) i }
 {
     match pairs.get(i) {
-        Some((position, offer)) => pays_into(crossing, &outcomes[position as usize], offer),
+        Some((position, charge)) => {
+            pays_into(crossing, &outcomes[position as usize], potential, charge)
+        }
         None => true,
     }
 }
 
 /// Whether all pairs are ones that pay.
-fn all_pay(pairs: &Pairs, outcomes: &[Outcome], crossing: &Crossing) -> bool
+fn all_pay(pairs: &Pairs, outcomes: &[Outcome], potential: u64, crossing: &Crossing) -> bool
     requires listed { (i : ℕ) (x : ℕ × ℕ) → slice_get pairs.now i ≡ Some x → x.0 < length outcomes.now }
     requires entering { crossing.now.entering < 2 ^ 127 }
     requires returning { crossing.now.returning < 2 ^ 127 }
-    ensures { let c = crossing.now in IsTrue result
-        ↔ AllPay pairs.now outcomes.now (PaysInto c.family.now c.entering c.returning) }
+    ensures { let c = crossing.now in IsTrue result ↔ AllPay pairs.now outcomes.now
+        (λ charge. PaysInto c.family.now c.entering c.returning (potential + charge)) }
 {
     for i in 0..pairs.len() as u64 {
-        if !pair_pays(pairs, i, outcomes, crossing) {
+        if !pair_pays(pairs, i, outcomes, potential, crossing) {
             return false;
         }
     }
@@ -84,26 +91,26 @@ fn all_pay(pairs: &Pairs, outcomes: &[Outcome], crossing: &Crossing) -> bool
 /// potential are together at most the potential, what the misses are charged and what the edge pays on going back.
 ///
 /// The only error is want of memory. Diagrams of the table keep their meaning. The time goes by how many different
-/// pairs of outcomes and offers there are, and for each of them by how many vectors the target has.
+/// pairs of outcomes and charges there are, and for each of them by how many vectors the target has.
 pub fn pays_edge(
     table: &mut Table,
-    exit: &BlockExit,
+    leaving: &Leaving,
     offer: &Offer,
     crossing: &Crossing,
 ) -> Result<bool, NoMemory>
-    requires exit { AreDiagrams table.old 12 (exit.now.cost ∷ exit.now.slots) }
-    requires offer { IsOffer offer.now.classes.now offer.now.charges.now offer.now.potential }
+    requires within { leaving.now.place.place < length table.old }
+    requires listed { (f : Combination) → time table.old f leaving.now.place.place < length leaving.now.list }
+    requires charged { IsCharged table.old offer.now.classes.now offer.now.charged }
     requires entering { crossing.now.entering < 2 ^ 127 }
     requires returning { crossing.now.returning < 2 ^ 127 }
     ensures pays { let o = offer.now in let c = crossing.now in IfOk result (λ pays. IsTrue pays ↔
-        PaysForEdge table.old o.classes.now (offered o.classes.now o.charges.now o.potential) exit.now
+        PaysForEdge table.old o.classes.now (offered table.old o.charged o.potential) leaving.now
         (PaysInto c.family.now c.entering c.returning)) }
     ensures kept { Keeps table.old table.new }
 {
-    let found = outcomes(table, exit)?;
-    let place = settle(table, found.place, offer.classes)?;
-    let given = offer_diagram(table, offer)?;
+    let place = settle(table, leaving.place, offer.classes)?;
     let mut pairs = Pairs::new(table.allocator());
-    zip(table, place, given, &mut pairs)?;
-    Ok(all_pay(&pairs, found.list.as_slice(), crossing))
+    zip(table, place, offer.charged, &mut pairs)?;
+    let outcomes = leaving.list.as_slice();
+    Ok(all_pay(&pairs, outcomes, offer.potential, crossing))
 }

@@ -11,5 +11,5 @@ mod settling;
 pub use edge::{Crossing, pays_edge};
 pub use finish::pays_finish;
 pub use laws::misses_are_charged;
-pub use offer::Offer;
+pub use offer::{Offer, charged};
 pub use settling::settle;

@@ -1,8 +1,8 @@
-//! What a vector offers, as a diagram over the events of its block.
+//! What a vector offers: its potential, and what misses are charged, as a diagram over the events of its block.
 
 ghost use Rattle.std.specs.Prelude.{◌≡◌, ℕ, ◌+◌, ◌<◌, ◌≤◌, ◌^◌, length, drop, IfOk, if◌then◌else◌};
 ghost use Rattle.xdd_table.specs.Diagram.{Combination, time, Keeps};
-ghost use Rattle.cert_judge.specs.Offers.{charge_of, charged_from, offered, IsOffer};
+ghost use Rattle.cert_judge.specs.Offers.{charge_of, charged_from, AreSmallCharges, IsCharged};
 
 use cache_class::Class;
 use std::marker::Brand;
@@ -16,8 +16,8 @@ use xdd_table::{Dd, Table};
 pub struct Offer<'a> {
     /// The classes of the events of its block, by their numbers.
     pub classes: &'a [Class],
-    /// What a miss of each event is charged, in cycles: it counts for first misses alone.
-    pub charges: &'a [u64],
+    /// What the misses of its block are charged, in cycles: [`charged`] makes it.
+    pub charged: Dd,
     /// The vector's potential, in cycles.
     pub potential: u64,
 }
@@ -73,31 +73,54 @@ fn charge_at(table: &mut Table, event: u32, charge: u64) -> Result<Dd, NoMemory>
     table.branch(event, hit, miss)
 }
 
-/// The diagram of the potential and of the charges of the events that miss, from an event on.
-fn offered_from(table: &mut Table, offer: &Offer, number: usize) -> Result<Dd, NoMemory>
-    requires offer { IsOffer offer.now.classes.now offer.now.charges.now offer.now.potential }
-    requires number { number ≤ length offer.now.classes.now }
-    ensures times { IfOk result (λ d. (f : Combination) → time table.new f d.place ≡
-        offer.now.potential + charged_from offer.now.charges.now number f (drop number offer.now.classes.now)) }
+/// The diagram with the charge of an event added where the event misses.
+fn with_charge(table: &mut Table, rest: Dd, event: u32, charge: u64) -> Result<Dd, NoMemory>
+    requires rest { rest.place < length table.old }
+    requires fits { (f : Combination) → time table.old f rest.place + charge < 2 ^ 64 }
+    ensures times { IfOk result (λ d. (f : Combination)
+        → time table.new f d.place ≡ (if f event then charge else 0) + time table.old f rest.place) }
     ensures within { IfOk result (λ d. d.place < length table.new) }
     ensures kept { Keeps table.old table.new }
 {
-    if number == offer.classes.len() {
-        return table.leaf(offer.potential);
+    if charge == 0 {
+        return Ok(rest);
     }
-    let rest = offered_from(table, offer, number + 1)?;
-    let charge = miss_charge(&offer.classes[number], offer.charges[number]);
-    let charged = charge_at(table, number as u32, charge)?;
+    let charged = charge_at(table, event, charge)?;
     sum(table, rest, charged)
 }
 
-/// The diagram of what the vector offers: its potential and what the misses are charged.
-pub fn offer_diagram(table: &mut Table, offer: &Offer) -> Result<Dd, NoMemory>
-    requires { IsOffer offer.now.classes.now offer.now.charges.now offer.now.potential }
-    ensures times { IfOk result (λ d. (f : Combination) → time table.new f d.place ≡
-        offered offer.now.classes.now offer.now.charges.now offer.now.potential f) }
+/// The diagram of what the misses are charged, from an event on.
+fn charged_on(
+    table: &mut Table,
+    classes: &[Class],
+    charges: &[u64],
+    number: usize,
+) -> Result<Dd, NoMemory>
+    requires charges { AreSmallCharges classes.now charges.now }
+    requires number { number ≤ length classes.now }
+    ensures times { IfOk result (λ d. (f : Combination)
+        → time table.new f d.place ≡ charged_from charges.now number f (drop number classes.now)) }
     ensures within { IfOk result (λ d. d.place < length table.new) }
     ensures kept { Keeps table.old table.new }
 {
-    offered_from(table, offer, 0)
+    if number == classes.len() {
+        return table.leaf(0);
+    }
+    let rest = charged_on(table, classes, charges, number + 1)?;
+    let charge = miss_charge(&classes[number], charges[number]);
+    with_charge(table, rest, number as u32, charge)
+}
+
+/// The diagram of what the misses of a block are charged, where its events have these classes and a miss of each is
+/// charged this, in cycles: it counts for first misses alone.
+///
+/// The only error is want of memory. Diagrams of the table keep their meaning.
+pub fn charged(table: &mut Table, classes: &[Class], charges: &[u64]) -> Result<Dd, NoMemory>
+    requires { AreSmallCharges classes.now charges.now }
+    ensures times { IfOk result (λ d. (f : Combination)
+        → time table.new f d.place ≡ charged_from charges.now 0 f classes.now) }
+    ensures charged { IfOk result (IsCharged table.new classes.now) }
+    ensures kept { Keeps table.old table.new }
+{
+    charged_on(table, classes, charges, 0)
 }

@@ -66,7 +66,7 @@ front [] ys p h = absurd (omega arith)
 front (x ∷ xs) ys zero h = refl
 front (x ∷ xs) ys (suc p) h = front xs ys p (omega arith)
 
-end : {A : Type 0} (xs : List A) (y : A) → slice_get (xs ++ y ∷ []) (length xs) ≡ Some y
+pub end : {A : Type 0} (xs : List A) (y : A) → slice_get (xs ++ y ∷ []) (length xs) ≡ Some y
 end [] y = refl
 end (x ∷ xs) y = end xs y
 

@@ -8,11 +8,11 @@ use Rattle.std.proofs.lemmas.Option.{slice_get-get_or, get_or_from_slice_get, un
 use Rattle.xdd_table.specs.declared.node.Dd.{Dd}
 use Rattle.xdd_table.specs.declared.node.Node.{Node}
 use Rattle.xdd_table.specs.declared.node.Node.TheVariants.{Leaf, Branch}
-use Rattle.xdd_table.specs.Diagram.{Combination, with_event, time, ReadsAfter, BeginsAfter, EventsLess, itself, by_hit, by_miss, IsBranchAt, Keeps}
+use Rattle.xdd_table.specs.Diagram.{Combination, time, ReadsAfter, BeginsAfter, EventsLess, itself, by_hit, by_miss, IsBranchAt, Keeps}
 use Rattle.pipe_block.specs.declared.row.Row.{Row}
 use Rattle.pipe_block.specs.declared.row.Bundle.{Bundle}
 use Rattle.pipe_block.specs.Times.{times_at, IsDiagram, AreDiagrams}
-use Rattle.pipe_block.specs.Rows.{row_at, parts, AllAfter, AreFrom, IsFirst, IsCofactor, AreCofactors, Extends, AreGathered, IsGiven, AddsGiven}
+use Rattle.pipe_block.specs.Rows.{row_at, parts, AllAfter, AreFrom, IsFirst, IsCofactor, AreCofactors, Extends, AreGathered}
 use Rattle.pipe_block.proofs.Plans.{leads_kept}
 
 -- the least of the first events so far and that of one more diagram
@@ -178,39 +178,6 @@ pub gathered_kept : (old new : List Node) (rows more : List Row) (nodes : List N
 gathered_kept old new rows more nodes kept k x all = record {
   each = λ b d is.
       leads_kept old new rows more (row_at nodes b) (λ e. AllAfter nodes e (parts b)) (λ bound. AreDiagrams nodes bound (parts b)) d.place k x (all.each b d is);
-}
-
--- rows that a half adds are given by the whole
-module _ (nodes : List Node) (bundle half : Bundle) (level event : ℕ) (misses : Bool) (l : level ≤ event) (c : AreCofactors nodes event misses bundle half) where
-  given_half : (r : Row) → IsGiven nodes half (event + 1) r → IsGiven nodes bundle level r
-  given_half r g = record {
-    by = λ h.
-        let w = g.by (with_event h event misses) in
-        let here : w.0 event ≡ misses = w.2 event (omega arith) ∙ with_here h event misses in
-        (w.0, w.1 ∙ c.times w.0 here, λ x m. w.2 x (omega arith) ∙ with_other h event x misses (omega arith));
-  }
-    where
-      with_here : (h : Combination) (event : ℕ) (b : Bool) → with_event h event b event ≡ b
-      with_here h event b = let t : (event == event) ≡ true = grind (arith, nat_tests) in rw t refl
-
-      with_other : (h : Combination) (event x : ℕ) (b : Bool) → x < event → with_event h event b x ≡ h x
-      with_other h event x b m = let t : (x == event) ≡ false = grind (arith, nat_tests) in rw t refl
-
-  pub adds_half : (old new : List Row) → AddsGiven old new nodes half (event + 1) → AddsGiven old new nodes bundle level
-  adds_half old new a = record { added = λ i r is. elim (a.added i r is) [ inl x ↦ inl x | inr g ↦ inr (given_half r g) ] }
-
-pub adds_twice : (a b c : List Row) (nodes : List Node) (bundle : Bundle) (level : ℕ) → AddsGiven a b nodes bundle level → AddsGiven b c nodes bundle level → AddsGiven a c nodes bundle level
-adds_twice a b c nodes bundle level x y = record {
-  added = λ i r is. elim (y.added i r is) [ inl z ↦ x.added i r z | inr g ↦ inr g ];
-}
-
-pub adds_none : (rows : List Row) (nodes : List Node) (bundle : Bundle) (level : ℕ) → AddsGiven rows rows nodes bundle level
-adds_none rows nodes bundle level = record { added = λ i r is. inl is }
-
-pub adds_row : (old new : List Row) (row : Row) (nodes : List Node) (bundle : Bundle) (level : ℕ) → ((f : Combination) → row_at nodes bundle f ≡ row)
-    → ((i : ℕ) (r : Row) → slice_get new i ≡ Some r → (slice_get old i ≡ Some r) ⊎ (r ≡ row)) → AddsGiven old new nodes bundle level
-adds_row old new row nodes bundle level is only = record {
-  added = λ i r at. elim (only i r at) [ inl x ↦ inl x | inr e ↦ inr (record { by = λ g. (g, e ∙ sym (is g), λ x l. refl) }) ];
 }
 
 -- one more element of an array is set

@@ -9,3 +9,6 @@ pub mod Gathering
 pub mod Staying
 pub mod ValidLemmas
 pub mod BlockLemmas
+pub mod Merging
+pub mod Leavings
+pub mod EndLemmas

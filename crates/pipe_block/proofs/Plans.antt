@@ -1,9 +1,10 @@
 -- What plans and rows keep as they grow, and a branch of two diagrams of a plan.
-use Rattle.std.proofs.Common.{◌≡◌, ℕ, ◌<◌, ◌≤◌, Bool, true, false, List, length, slice_get, Option, Some, refl, sym, ◌∙◌, arith, if◌then◌else◌, cond}
+use Rattle.std.proofs.Common.{◌≡◌, ℕ, ◌+◌, ◌<◌, ◌≤◌, ◌⊎◌, Bool, true, false, List, length, slice_get, Option, Some, ◌==◌, refl, sym, ◌∙◌, inl, inr, arith, if◌then◌else◌, cond}
+use Rattle.std.proofs.lemmas.Bool.Decides.{nat_tests}
 use Rattle.xdd_table.specs.declared.node.Node.{Node}
-use Rattle.xdd_table.specs.Diagram.{Combination, time, BeginsAfter, EventsLess, Keeps}
+use Rattle.xdd_table.specs.Diagram.{Combination, with_event, time, BeginsAfter, EventsLess, Keeps}
 use Rattle.pipe_block.specs.declared.row.Row.{Row}
-use Rattle.pipe_block.specs.Rows.{Leads, Extends}
+use Rattle.pipe_block.specs.Rows.{Leads, Extends, IsGiven, AddsGiven}
 
 pub keeps_self : (nodes : List Node) → Keeps nodes nodes
 keeps_self nodes = record { grows = omega arith; nodes = λ p h. refl; times = λ f p h. refl; begins = λ e p h b. b; events = λ p bound h e. e }
@@ -74,3 +75,45 @@ pub known_more : {K V : Type 0} (eq : K → K → Bool) (sound : (a b : K) → e
     → ((q : K) (d : V) → old q ≡ Some d → Right q d) → Right k v → ((q : K) → new q ≡ cond (eq k q) (Some v) (old q)) → (q : K) (d : V) → new q ≡ Some d → Right q d
 known_more eq sound Right k v old new all x updates q d is =
     one_more (eq k q) Right k q v d (old q) (sound k q) x (all q d) (sym (updates q) ∙ is)
+
+-- rows that a half adds are given by the whole
+module _ (row_of half_of : Combination → Row) (level event : ℕ) (misses : Bool) (l : level ≤ event) (same : (f : Combination) → f event ≡ misses → half_of f ≡ row_of f) where
+  given_half : (r : Row) → IsGiven half_of (event + 1) r → IsGiven row_of level r
+  given_half r g = record {
+    by = λ h.
+        let w = g.by (with_event h event misses) in
+        let here : w.0 event ≡ misses = w.2 event (omega arith) ∙ with_here h event misses in
+        (w.0, w.1 ∙ same w.0 here, λ x m. w.2 x (omega arith) ∙ with_other h event x misses (omega arith));
+  }
+    where
+      with_here : (h : Combination) (event : ℕ) (b : Bool) → with_event h event b event ≡ b
+      with_here h event b = let t : (event == event) ≡ true = grind (arith, nat_tests) in rw t refl
+
+      with_other : (h : Combination) (event x : ℕ) (b : Bool) → x < event → with_event h event b x ≡ h x
+      with_other h event x b m = let t : (x == event) ≡ false = grind (arith, nat_tests) in rw t refl
+
+  pub adds_half : (old new : List Row) → AddsGiven old new half_of (event + 1) → AddsGiven old new row_of level
+  adds_half old new a = record { added = λ i r is. elim (a.added i r is) [ inl x ↦ inl x | inr g ↦ inr (given_half r g) ] }
+
+pub adds_twice : (a b c : List Row) (row_of : Combination → Row) (level : ℕ) → AddsGiven a b row_of level → AddsGiven b c row_of level → AddsGiven a c row_of level
+adds_twice a b c row_of level x y = record {
+  added = λ i r is. elim (y.added i r is) [ inl z ↦ x.added i r z | inr g ↦ inr g ];
+}
+
+pub adds_none : (rows : List Row) (row_of : Combination → Row) (level : ℕ) → AddsGiven rows rows row_of level
+adds_none rows row_of level = record { added = λ i r is. inl is }
+
+pub adds_row : (old new : List Row) (row : Row) (row_of : Combination → Row) (level : ℕ) → ((f : Combination) → row_of f ≡ row)
+    → ((i : ℕ) (r : Row) → slice_get new i ≡ Some r → (slice_get old i ≡ Some r) ⊎ (r ≡ row)) → AddsGiven old new row_of level
+adds_row old new row row_of level is only = record {
+  added = λ i r at. elim (only i r at) [ inl x ↦ inl x | inr e ↦ inr (record { by = λ g. (g, e ∙ sym (is g), λ x l. refl) }) ];
+}
+
+-- rows that are given by one function are given by an equal one
+pub adds_as : (old new : List Row) (row_of other_of : Combination → Row) (level : ℕ) → ((f : Combination) → other_of f ≡ row_of f) → AddsGiven old new other_of level → AddsGiven old new row_of level
+adds_as old new row_of other_of level same a = record {
+  added = λ i r is. elim (a.added i r is) [
+    | inl x ↦ inl x
+    | inr g ↦ inr (record { by = λ h. let w = g.by h in (w.0, w.1 ∙ same w.0, w.2) })
+  ];
+}

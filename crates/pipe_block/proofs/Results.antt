@@ -31,7 +31,7 @@ pub window_long : (m : Machine) (slots : List ℕ) (past : List Done) → length
 unfolding window
 window_long m slots past = refl
 
-window_completion : (m : Machine) (slots : List ℕ) (past : List Done) → slice_index (window m slots past) 14 ≡ ago 1 (c_back slots past)
+pub window_completion : (m : Machine) (slots : List ℕ) (past : List Done) → slice_index (window m slots past) 14 ≡ ago 1 (c_back slots past)
 unfolding window
 window_completion m slots past = refl
 
@@ -76,7 +76,7 @@ exit_rows_are old new plan rows p bundle m taken v long w g = record {
   diagrams = λ bound ds. g.diagrams bound (w.events bound ds);
 }
 
-some_of_map : {A B : Type 0} (g : A → B) (xs : List A) (i : ℕ) (y : B) → slice_get (map g xs) i ≡ Some y → (x : A) × (slice_get xs i ≡ Some x) × (g x ≡ y)
+pub some_of_map : {A B : Type 0} (g : A → B) (xs : List A) (i : ℕ) (y : B) → slice_get (map g xs) i ≡ Some y → (x : A) × (slice_get xs i ≡ Some x) × (g x ≡ y)
 some_of_map g [] i y h = cc
 some_of_map g (x ∷ xs) zero y h = (x, refl, same_Some (g x) y h)
 some_of_map g (x ∷ xs) (suc i) y h = some_of_map g xs i y h
@@ -84,7 +84,7 @@ some_of_map g (x ∷ xs) (suc i) y h = some_of_map g xs i y h
 outcome_row : Outcome → Row
 outcome_row o = record { number = o.cost; slots = o.vector.slots }
 
-same_rows : (r s : Row) → outcome_of r ≡ outcome_of s → r ≡ s
+pub same_rows : (r s : Row) → outcome_of r ≡ outcome_of s → r ≡ s
 same_rows r s h =
     let to : Outcome → Row = λ o. record { number = o.cost; slots = o.vector.slots } in
     ap to h
@@ -92,7 +92,7 @@ same_rows r s h =
 -- the list of the rows as outcomes
 pub outcomes_are : (old new plan : List Node) (rows : List Row) (p : ℕ) (place : Dd) (e : BlockExit)
     → ((i j : ℕ) (r : Row) → slice_get rows i ≡ Some r → slice_get rows j ≡ Some r → i ≡ j)
-    → LeadsTo plan rows old (record { number = e.cost; slots = e.slots }) p → AddsGiven [] rows old (record { number = e.cost; slots = e.slots }) 0
+    → LeadsTo plan rows old (record { number = e.cost; slots = e.slots }) p → AddsGiven [] rows (row_at old (record { number = e.cost; slots = e.slots })) 0
     → IsColumn plan new (range_with_len 0 (length rows)) p place
     → AreOutcomes old new e (record { list = map outcome_of rows; place = place })
 outcomes_are old new plan rows p place e distinct w given c = record {

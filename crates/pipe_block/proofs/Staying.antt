@@ -17,8 +17,10 @@ use Rattle.pipe_time.specs.declared.vector.Vector.{Vector}
 use Rattle.pipe_block.specs.declared.diagrams.BlockVector.{BlockVector}
 use Rattle.pipe_block.specs.declared.key.MemoKey.{MemoKey}
 use Rattle.pipe_block.specs.Times.{IsDiagram, AreTimes}
-use Rattle.pipe_block.specs.Kept.{same_key, kept_in, AreRight, IsAnswered, IsKeyOf, IsRight}
-use Rattle.pipe_block.specs.Laws.{TimesStay, RightAnswersStay, NoAnswerIsRight, InterningKeeps, KeepsVectors}
+use Rattle.pipe_block.specs.declared.diagrams.Leaving.{Leaving}
+use Rattle.pipe_block.specs.declared.ends.Ends.{Ends}
+use Rattle.pipe_block.specs.Kept.{same_key, kept_in, number_in, AreEndsOf, AreEndsRight, IsAnswered, IsKeyOf, IsNumberIn, IsRight}
+use Rattle.pipe_block.specs.Laws.{TimesStay, InterningKeeps, KeepsVectors}
 use Rattle.pipe_block.proofs.Arrivals.{front}
 use Rattle.pipe_block.proofs.Plans.{one_more}
 
@@ -45,21 +47,6 @@ times_stay old new m from block v k w =
           (λ d x. record { within = omega (arith, x.within); events = k.events d.place n x.within x.events }) (v.last ∷ v.slots) w.diagrams;
     }
 
-pub right_answers_stay : RightAnswersStay
-right_answers_stay old new pool more m u entries k kept all = record {
-  each = λ key v is.
-      let r = all.each key v is in
-      record {
-        function = r.function;
-        block = r.block;
-        from = r.from;
-        function_stands = r.function_stands;
-        block_stands = r.block_stands;
-        from_stands = kept.kept key.place r.from r.from_stands;
-        times = times_stay old new m r.from.slots r.block v k r.times;
-      };
-}
-
 pub pool_stays : (pool : List Vector) → KeepsVectors pool pool
 pool_stays pool = record { kept = λ place v is. is }
 
@@ -73,18 +60,12 @@ interning_keeps old new v place s = record {
   ];
 }
 
-pub no_answer_is_right : NoAnswerIsRight
-no_answer_is_right nodes pool m u = record { each = λ key v is. cc }
-
 both : (x y : Bool) → (x && y) ≡ true → (x ≡ true) × (y ≡ true)
 both true y h = (refl, h)
 both false y h = absurd (false≢true h)
 
 number_same : (a b : ℕ) → nat_eq a b ≡ true → a ≡ b
 number_same a b h = grind (arith, nat_tests)
-
-number_itself : (a : ℕ) → nat_eq a a ≡ true
-number_itself a = grind (arith, nat_tests)
 
 key_same : (a b : MemoKey) → same_key a b ≡ true → a ≡ b
 key_same a b h =
@@ -94,6 +75,9 @@ key_same a b h =
     let f : a.block ≡ b.block = number_same a.block b.block x.0 in
     let g : a.place ≡ b.place = number_same a.place b.place x.1 in
     rw (e, f, g) refl
+
+number_itself : (a : ℕ) → nat_eq a a ≡ true
+number_itself a = grind (arith, nat_tests)
 
 key_itself : (a : MemoKey) → same_key a a ≡ true
 key_itself a = rw (number_itself a.function, number_itself a.block, number_itself a.place) refl
@@ -119,51 +103,55 @@ module _ (nodes : List Node) (pool : List Vector) (m : Machine) (u : Unfolded) (
   block_at : slice_get of.function.blocks key.block ≡ Some b
   block_at = ap (λ (x : MemoKey). slice_get of.function.blocks x.block) k.is ∙ (ap (λ (n : UNode). slice_get of.function.blocks n.block) same_node ∙ of.block_stands)
 
-  -- the times of the node's block from the vector at the place are right for their key
-  pub right_for : (v : BlockVector) → AreTimes nodes m from.slots b v → IsRight nodes pool m u key v
-  right_for v w = record { function = of.function; block = b; from = from; function_stands = function_at; block_stands = block_at; from_stands = from_at; times = w }
+  -- the ends of the node's block from the vector at the place are right for their key
+  pub right_for : (made : List Leaving) (ends : Ends) → AreEndsOf nodes made m from.slots b ends → IsRight nodes pool m u made key ends
+  right_for made ends w = record { function = of.function; block = b; from = from; function_stands = function_at; block_stands = block_at; from_stands = from_at; are = w }
 
-  -- and what is right for the key are these times
-  pub right_times : (v : BlockVector) → IsRight nodes pool m u key v → AreTimes nodes m from.slots b v
-  right_times v r =
+  -- and what is right for the key are these ends
+  pub right_ends : (made : List Leaving) (ends : Ends) → IsRight nodes pool m u made key ends → AreEndsOf nodes made m from.slots b ends
+  right_ends made ends r =
       let function : r.function ≡ of.function = same_Some r.function of.function (sym r.function_stands ∙ function_at) in
       let block : r.block ≡ b = same_Some r.block b (sym r.block_stands ∙ (ap (λ (f : Function). slice_get f.blocks key.block) function ∙ block_at)) in
       let vector : r.from ≡ from = same_Some r.from from (sym r.from_stands ∙ from_at) in
-      rw (← vector, ← block) r.times
+      rw (← vector, ← block) r.are
 
--- the block of what is right for a node's key is that of the node
-pub right_block : (nodes : List Node) (pool : List Vector) (m : Machine) (u : Unfolded) (node place : ℕ) (key : MemoKey) (v : BlockVector) → IsKeyOf u node place key → (r : IsRight nodes pool m u key v) → IsBlockOf u node r.block
-right_block nodes pool m u node place key v k r = record {
-  node = k.at;
-  function = r.function;
-  stands = k.stands;
-  function_stands = sym (ap (λ (x : MemoKey). slice_get u.program.functions x.function) k.is) ∙ r.function_stands;
-  block_stands = sym (ap (λ (x : MemoKey). slice_get r.function.blocks x.block) k.is) ∙ r.block_stands;
+-- one more answer is kept
+pub right_more : (old new : List (MemoKey × Ends)) (made : List Leaving) (key : MemoKey) (ends : Ends)
+    → ((q : MemoKey) → kept_in new q ≡ cond (same_key key q) (Some ends) (kept_in old q))
+    → (nodes : List Node) (pool : List Vector) (m : Machine) (u : Unfolded) → AreEndsRight nodes pool m u (record { entries = old; leavings = made })
+    → IsRight nodes pool m u made key ends → AreEndsRight nodes pool m u (record { entries = new; leavings = made })
+right_more old new made key ends updates nodes pool m u all r = record {
+  each = λ q x is.
+      one_more (same_key key q) (λ (q : MemoKey) (x : Ends). IsRight nodes pool m u made q x) key q ends x (kept_in old q) (key_same key q) r (all.each q x) (sym (updates q) ∙ is);
 }
 
-module _ (old new : List (MemoKey × BlockVector)) (key : MemoKey) (v : BlockVector)
-    (updates : (q : MemoKey) → kept_in new q ≡ cond (same_key key q) (Some v) (kept_in old q)) where
-  -- one more answer is kept
-  pub right_more : (nodes : List Node) (pool : List Vector) (m : Machine) (u : Unfolded) → AreRight nodes pool m u old → IsRight nodes pool m u key v → AreRight nodes pool m u new
-  right_more nodes pool m u all r = record {
-    each = λ q x is.
-        one_more (same_key key q) (λ (q : MemoKey) (x : BlockVector). IsRight nodes pool m u q x) key q v x (kept_in old q) (key_same key q) r (all.each q x) (sym (updates q) ∙ is);
-  }
-
-  by_test : (q : MemoKey) (e : Bool) → same_key key q ≡ e → (q ≡ key → ⊥) → cond e (Some v) (kept_in old q) ≡ kept_in old q
+module _ (old new : List (MemoKey × Ends)) (key : MemoKey) (ends : Ends)
+    (updates : (q : MemoKey) → kept_in new q ≡ cond (same_key key q) (Some ends) (kept_in old q)) where
+  by_test : (q : MemoKey) (e : Bool) → same_key key q ≡ e → (q ≡ key → ⊥) → cond e (Some ends) (kept_in old q) ≡ kept_in old q
   by_test q true h other = absurd (other (sym (key_same key q h)))
   by_test q false h other = refl
 
-  pub answered : IsAnswered old new key v
+  pub answered : IsAnswered old new key ends
   answered = record {
-    there = updates key ∙ ap (λ e. cond e (Some v) (kept_in old key)) (key_itself key);
+    there = updates key ∙ ap (λ e. cond e (Some ends) (kept_in old key)) (key_itself key);
     others = λ q other. updates q ∙ by_test q (same_key key q) refl other;
   }
 
+pub answered_before : (entries : List (MemoKey × Ends)) (key : MemoKey) (ends : Ends) → kept_in entries key ≡ Some ends → IsAnswered entries entries key ends
+answered_before entries key ends is = record { there = is; others = λ q other. refl }
+
 -- a node's block and a place have one answer, or none
-module _ (entries : List (MemoKey × BlockVector)) (u : Unfolded) (node place : ℕ) (a b : MemoKey) (k : IsKeyOf u node place a) (l : IsKeyOf u node place b) where
-  pub known_once : (v w : BlockVector) → kept_in entries a ≡ Some v → kept_in entries b ≡ Some w → v ≡ w
+module _ (entries : List (MemoKey × Ends)) (u : Unfolded) (node place : ℕ) (a b : MemoKey) (k : IsKeyOf u node place a) (l : IsKeyOf u node place b) where
+  pub known_once : (v w : Ends) → kept_in entries a ≡ Some v → kept_in entries b ≡ Some w → v ≡ w
   known_once v w is was = same_Some v w (sym is ∙ (ap (kept_in entries) (key_once u node place a b k l) ∙ was))
 
-  pub not_known : (w : BlockVector) → kept_in entries a ≡ None → kept_in entries b ≡ Some w → ⊥
+  pub not_known : (w : Ends) → kept_in entries a ≡ None → kept_in entries b ≡ Some w → ⊥
   not_known w none was = let e : None ≡ Some w = sym none ∙ (ap (kept_in entries) (key_once u node place a b k l) ∙ was) in absurd cc
+
+  pub number_moved : (taken : Bool) (number : ℕ) → IsNumberIn entries b taken number → IsNumberIn entries a taken number
+  number_moved taken number n = record { ends = n.ends; kept = ap (kept_in entries) (key_once u node place a b k l) ∙ n.kept; is = n.is }
+
+pub number_once : (entries : List (MemoKey × Ends)) (key : MemoKey) (taken : Bool) (a b : ℕ) → IsNumberIn entries key taken a → IsNumberIn entries key taken b → a ≡ b
+number_once entries key taken a b x y =
+    let same : x.ends ≡ y.ends = same_Some x.ends y.ends (sym x.kept ∙ y.kept) in
+    same_Some a b (sym x.is ∙ (ap (λ (e : Ends). number_in e taken) same ∙ y.is))

@@ -1,6 +1,8 @@
 -- What a walk finds: at an event from both ways, behind an instruction from what is left, and behind the last one.
-use Rattle.std.proofs.Common.{◌≡◌, ℕ, ◌+◌, ◌<◌, ◌≤◌, Bool, true, false, List, length, drop, slice_get, Option, Some, sym, ap, ◌∙◌, arith, if◌then◌else◌, cond, Result, Ok, Err, IfOk, OnOk}
+use Rattle.std.proofs.Common.{◌≡◌, ℕ, ◌+◌, ◌<◌, ◌≤◌, ◌⊎◌, Bool, true, false, List, [], length, drop, slice_get, Option, Some, sym, ap, ◌∙◌, inl, inr, arith, if◌then◌else◌, cond, Result, Ok, Err, IfOk, OnOk}
+use Rattle.std.proofs.lemmas.Option.{slice_get_within}
 use Rattle.arm_code.specs.declared.insn.Insn.{Insn}
+use Rattle.flow_block.specs.declared.block.Block.{Block}
 use Rattle.flow_block.specs.declared.block.Slot.{Slot}
 use Rattle.flow_block.specs.declared.block.SlotKind.{SlotKind}
 use Rattle.wx_base.specs.declared.machine.Machine.{Machine}
@@ -12,10 +14,11 @@ use Rattle.xdd_table.specs.Diagram.{Combination, time, BeginsAfter, EventsLess, 
 use Rattle.pipe_time.specs.Windows.{WindowsGoOn, WindowsLeadOn}
 use Rattle.pipe_block.specs.declared.row.Row.{Row}
 use Rattle.pipe_block.specs.declared.state.State.{State}
-use Rattle.pipe_block.specs.Rows.{Extends}
-use Rattle.pipe_block.specs.Walks.{row_of_state, IsNextEvent, NoneHere, decided_state, passed_state, IsState, LeadsOn, AreWalked}
-use Rattle.pipe_block.proofs.Plans.{leads_kept, leads_branch, known_more}
-use Rattle.pipe_block.proofs.Steps.{decided_rows, passed_rows, passed_last}
+use Rattle.pipe_block.specs.Events.{entries_of}
+use Rattle.pipe_block.specs.Rows.{AddsGiven, Extends}
+use Rattle.pipe_block.specs.Walks.{row_of_state, IsNextEvent, NoneHere, decided_state, passed_state, IsState, IsWalk, LeadsOn, AreWalked, row_from}
+use Rattle.pipe_block.proofs.Plans.{leads_kept, leads_branch, known_more, adds_as, adds_half, adds_row}
+use Rattle.pipe_block.proofs.Steps.{decided_rows, passed_rows, passed_last, rest_of_all}
 
 module _ (m : Machine) (insns : List Insn) (events : List Slot) where
   pub on_kept : (old new : List Node) (rows more : List Row) (s : State) (p : ℕ) → Keeps old new → Extends rows more → LeadsOn old rows m insns events s p → LeadsOn new more m insns events s p
@@ -73,6 +76,42 @@ module _ (m : Machine) (insns : List Insn) (events : List Slot) where
     after = λ e l. after e;
     events = λ b l. less b;
   }
+
+  pub adds_decided : (s : State) (kind : SlotKind) (missed : Bool) → IsNextEvent s.at (drop s.decided events) kind → (old new : List Row)
+      → AddsGiven old new (row_of_state m insns events (decided_state kind missed s)) (s.decided + 1) → AddsGiven old new (row_of_state m insns events s) s.decided
+  adds_decided s kind missed n old new a =
+      adds_half (row_of_state m insns events s) (row_of_state m insns events (decided_state kind missed s)) s.decided s.decided missed (omega arith)
+      (λ f is. decided_rows m insns events s kind missed n f is) old new a
+
+  pub adds_passed : WindowsGoOn → WindowsLeadOn → IsMachine m → (s next : State) → IsState insns events s → NoneHere s.at (drop s.decided events)
+      → next ≡ (passed_state m insns s).1 → s.at + 1 < length insns → (old new : List Row)
+      → AddsGiven old new (row_of_state m insns events next) next.decided → AddsGiven old new (row_of_state m insns events s) s.decided
+  adds_passed go lead ok s next i none is l old new a =
+      let a' : AddsGiven old new (row_of_state m insns events (passed_state m insns s).1) s.decided = rw is at a in
+      adds_as old new (row_of_state m insns events s) (row_of_state m insns events (passed_state m insns s).1) s.decided
+      (λ f. passed_rows go lead m ok insns events s f i none l) a'
+
+  pub adds_last : (s : State) (row : Row) → IsState insns events s → NoneHere s.at (drop s.decided events) → s.at + 1 ≡ length insns
+      → row ≡ record { number = (passed_state m insns s).0; slots = (passed_state m insns s).1.slots } → (old new : List Row)
+      → ((i : ℕ) (r : Row) → slice_get new i ≡ Some r → (slice_get old i ≡ Some r) ⊎ (r ≡ row)) → AddsGiven old new (row_of_state m insns events s) s.decided
+  adds_last s row i none is same old new only =
+      adds_row old new row (row_of_state m insns events s) s.decided (λ f. passed_last m insns events s f i none is ∙ sym same) only
+
+-- the walk from a block's first instruction
+pub walk_is : (plan : List Node) (rows : List Row) (m : Machine) (from : List ℕ) (b : Block) (p : ℕ)
+    → LeadsOn plan rows m b.insns b.slots (record { at = 0; decided = 0; miss = false; slow = false; slots = from }) p
+    → AddsGiven [] rows (row_of_state m b.insns b.slots (record { at = 0; decided = 0; miss = false; slow = false; slots = from })) 0
+    → IsWalk plan rows m from b p
+walk_is plan rows m from b p w a =
+    let same : (f : Combination) → row_of_state m b.insns b.slots (record { at = 0; decided = 0; miss = false; slow = false; slots = from }) f ≡ row_from m from (entries_of b f) =
+    λ f. ap (row_from m from) (rest_of_all f b.slots 0 b.insns) in
+    record {
+      leads = record { within = w.within; each = λ f. w.each f ∙ ap (λ r. Some r) (same f); after = w.after; events = w.events };
+      given = λ i r is. elim (a.added i r is) [
+        | inl none ↦ absurd (let n : i < 0 = slice_get_within [] i r none in omega arith)
+        | inr g ↦ let k = g.by (λ x. false) in (k.0, k.1 ∙ same k.0)
+      ];
+    }
 
 pub on_ok : (r : Result Dd NoMemory) (P : Type 0) → P → OnOk r P
 on_ok (Ok d) P h = h

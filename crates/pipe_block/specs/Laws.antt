@@ -1,5 +1,5 @@
 -- What blocks of a function are, and what kept answers last through. This project's own.
-use Rattle.std.specs.Prelude.{◌≡◌, ℕ, List, [], slice_get, Some}
+use Rattle.std.specs.Prelude.{◌≡◌, ℕ, Bool, List, [], slice_get, Some}
 use Rattle.wx_base.specs.declared.facts.Facts.{Facts}
 use Rattle.wx_base.specs.declared.image.Image.{Image}
 use Rattle.wx_base.specs.declared.machine.Machine.{Machine}
@@ -12,11 +12,13 @@ use Rattle.flow_ctx.specs.Laws.{IsUnfoldedOn}
 use Rattle.flow_ctx.specs.Nodes.{IsBlockOf}
 use Rattle.pipe_time.specs.declared.vector.Vector.{Vector}
 use Rattle.pipe_time.specs.Pool.{Stands}
+use Rattle.xdd_table.specs.declared.node.Dd.{Dd}
 use Rattle.pipe_block.specs.declared.diagrams.BlockVector.{BlockVector}
-use Rattle.pipe_block.specs.declared.key.MemoKey.{MemoKey}
+use Rattle.pipe_block.specs.declared.diagrams.Leaving.{Leaving}
 use Rattle.pipe_block.specs.Events.{IsTimed}
 use Rattle.pipe_block.specs.Times.{AreTimes}
-use Rattle.pipe_block.specs.Kept.{AreRight}
+use Rattle.pipe_block.specs.Leavings.{IsFinishOf, IsLeaving}
+use Rattle.pipe_block.specs.Kept.{AreEndsRight, Memo}
 
 -- each block of a function can be timed
 abbrev pub BlocksAreTimed : Type 0
@@ -37,15 +39,28 @@ abbrev pub TimesStay : Type 0
 TimesStay =
     (old new : List Node) (m : Machine) (from : List ℕ) (block : Block) (v : BlockVector) → Keeps old new → AreTimes old m from block v → AreTimes new m from block v
 
+-- so does its finish
+abbrev pub FinishesStay : Type 0
+FinishesStay =
+    (old new : List Node) (m : Machine) (from : List ℕ) (block : Block) (d : Dd) → Keeps old new → IsFinishOf old m from block d → IsFinishOf new m from block d
+
+-- and what it hands on
+abbrev pub LeavingsStay : Type 0
+LeavingsStay =
+    (old new : List Node) (m : Machine) (from : List ℕ) (block : Block) (taken : Bool) (l : Leaving) →
+    Keeps old new → IsLeaving old m from block taken l → IsLeaving new m from block taken l
+
 -- right answers stay right as table and pool grow
-abbrev pub RightAnswersStay : Type 0
-RightAnswersStay =
-    (old new : List Node) (pool more : List Vector) (m : Machine) (u : Unfolded) (entries : List (MemoKey × BlockVector)) →
-    Keeps old new → KeepsVectors pool more → AreRight old pool m u entries → AreRight new more m u entries
+abbrev pub RightEndsStay : Type 0
+RightEndsStay =
+    (old new : List Node) (pool more : List Vector) (m : Machine) (u : Unfolded) (memo : Memo) →
+    Keeps old new → KeepsVectors pool more → AreEndsRight old pool m u memo → AreEndsRight new more m u memo
 
 -- where nothing is kept, all that is kept is right
-abbrev pub NoAnswerIsRight : Type 0
-NoAnswerIsRight = (nodes : List Node) (pool : List Vector) (m : Machine) (u : Unfolded) → AreRight nodes pool m u []
+abbrev pub NoEndIsRight : Type 0
+NoEndIsRight =
+    (nodes : List Node) (pool : List Vector) (m : Machine) (u : Unfolded) →
+    AreEndsRight nodes pool m u (record { entries = []; leavings = [] })
 
 -- a pool keeps its vectors when one is interned
 abbrev pub InterningKeeps : Type 0

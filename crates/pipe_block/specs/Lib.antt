@@ -2,6 +2,7 @@ pub mod Events
 pub mod Times
 pub mod Exits
 pub mod Outcomes
+pub mod Leavings
 pub mod Kept
 pub mod Rows
 pub mod Walks

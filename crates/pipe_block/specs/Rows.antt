@@ -94,9 +94,15 @@ pub record AreGathered (plan : List Node) (rows : List Row) (nodes : List Node) 
   pub each : (bundle : Bundle) (d : Dd) → kept bundle ≡ Some d → LeadsTo plan rows nodes bundle d.place
 
 -- whatever the events before the level do, some combination that does the same gives the row
-pub record IsGiven (nodes : List Node) (bundle : Bundle) (level : ℕ) (r : Row) : Type 0 where
-  pub by : (g : Combination) → (f : Combination) × (r ≡ row_at nodes bundle f) × ((x : ℕ) → x < level → f x ≡ g x)
+pub record IsGiven (row_of : Combination → Row) (level : ℕ) (r : Row) : Type 0 where
+  pub by : (g : Combination) → (f : Combination) × (r ≡ row_of f) × ((x : ℕ) → x < level → f x ≡ g x)
 
 -- each row that was added is given
-pub record AddsGiven (old new : List Row) (nodes : List Node) (bundle : Bundle) (level : ℕ) : Type 0 where
-  pub added : (i : ℕ) (r : Row) → slice_get new i ≡ Some r → (slice_get old i ≡ Some r) ⊎ IsGiven nodes bundle level r
+pub record AddsGiven (old new : List Row) (row_of : Combination → Row) (level : ℕ) : Type 0 where
+  pub added : (i : ℕ) (r : Row) → slice_get new i ≡ Some r → (slice_get old i ≡ Some r) ⊎ IsGiven row_of level r
+
+-- Different rows, and for each of some rows its position among them; each of the different rows is one of those.
+pub record AreMerged (rows different : List Row) (places : List ℕ) : Type 0 where
+  pub long : length places ≡ length rows
+  pub each : (i : ℕ) (r : Row) → slice_get rows i ≡ Some r → (p : ℕ) × (slice_get places i ≡ Some p) × (slice_get different p ≡ Some r)
+  pub given : (p : ℕ) (r : Row) → slice_get different p ≡ Some r → (i : ℕ) × (slice_get rows i ≡ Some r)

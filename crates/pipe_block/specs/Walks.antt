@@ -1,7 +1,8 @@
 -- A walk through the instructions of a block, which parts at each event. This project's own.
-use Rattle.std.specs.Prelude.{◌≡◌, ◌≢◌, ⊤, if◌then◌else◌, map, slice_index, ℕ, ◌+◌, ◌*◌, ◌^◌, ◌<◌, ◌≤◌, Bool, false, ◌||◌, List, [], ◌∷◌, length, drop, Option, Some, All}
+use Rattle.std.specs.Prelude.{◌≡◌, ◌≢◌, ⊤, if◌then◌else◌, map, slice_index, slice_get, ℕ, ◌+◌, ◌*◌, ◌^◌, ◌<◌, ◌≤◌, Bool, false, ◌||◌, List, [], ◌∷◌, length, drop, Option, Some, All}
 use Rattle.arm_code.specs.declared.insn.Insn.{Insn}
 use Rattle.arm_code.specs.Encoding.{IsValid, word_of}
+use Rattle.flow_block.specs.declared.block.Block.{Block}
 use Rattle.flow_block.specs.declared.block.Slot.{Slot}
 use Rattle.flow_block.specs.declared.block.SlotKind.{SlotKind}
 use Rattle.flow_block.specs.Blocks.{most_insns, most_slots}
@@ -14,7 +15,7 @@ use Rattle.xdd_table.specs.declared.node.Node.{Node}
 use Rattle.xdd_table.specs.Diagram.{Combination}
 use Rattle.pipe_block.specs.declared.row.Row.{Row}
 use Rattle.pipe_block.specs.declared.state.State.{State}
-use Rattle.pipe_block.specs.Events.{is_fetch, is_work, misses, Ascends}
+use Rattle.pipe_block.specs.Events.{is_fetch, is_work, misses, Ascends, entries_of}
 use Rattle.pipe_block.specs.Rows.{Leads}
 
 -- the row of instructions from a vector: the slots behind them, and the end of the last
@@ -109,3 +110,8 @@ LeadsOn plan rows m insns events s p =
 -- each kept answer is the diagram that leads to the rows of its state
 pub record AreWalked (plan : List Node) (rows : List Row) (m : Machine) (insns : List Insn) (events : List Slot) (kept : State → Option Dd) : Type 0 where
   pub each : (s : State) (d : Dd) → kept s ≡ Some d → LeadsOn plan rows m insns events s d.place
+
+-- A plan leads each combination to the row of a block from a vector, and some combination gives each of the rows.
+pub record IsWalk (plan : List Node) (rows : List Row) (m : Machine) (from : List ℕ) (block : Block) (p : ℕ) : Type 0 where
+  pub leads : Leads plan rows (λ f. row_from m from (entries_of block f)) (λ e. e < 0) (λ bound. length block.slots ≤ bound) p
+  pub given : (i : ℕ) (r : Row) → slice_get rows i ≡ Some r → (f : Combination) × (r ≡ row_from m from (entries_of block f))

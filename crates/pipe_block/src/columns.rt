@@ -78,7 +78,7 @@ pub fn column(table: &mut Table, plan: &Table, root: Dd, times: &[u64]) -> Resul
 }
 
 /// Slot `k` of each row.
-fn slot_times(alloc: Global, rows: &[Row], k: usize) -> Result<Vec<u64>, NoMemory>
+pub fn slot_times(alloc: Global, rows: &[Row], k: usize) -> Result<Vec<u64>, NoMemory>
     requires { k < 35 }
     ensures { IfOk result (λ times. times.items ≡ column_of k rows.now) }
 {
@@ -90,7 +90,7 @@ fn slot_times(alloc: Global, rows: &[Row], k: usize) -> Result<Vec<u64>, NoMemor
 }
 
 /// The number of each row.
-fn numbers(alloc: Global, rows: &[Row]) -> Result<Vec<u64>, NoMemory>
+pub fn numbers(alloc: Global, rows: &[Row]) -> Result<Vec<u64>, NoMemory>
     ensures { IfOk result (λ times. times.items ≡ map (λ r. r.number) rows.now) }
 {
     let mut times = Vec::new(alloc);

@@ -40,3 +40,15 @@ pub struct OutcomeList {
     /// The diagram of the position in the list.
     pub place: Dd,
 }
+
+/// What a block hands on from a vector along an edge by which its last instruction jumps or does not, as diagrams over
+/// the block's events.
+#[derive(Debug, Drop)]
+pub struct Leaving {
+    /// The cycles that are counted off.
+    pub cost: Dd,
+    /// The position of the outcome in the list.
+    pub place: Dd,
+    /// Each outcome that some combination gives, once.
+    pub list: Outcomes,
+}

@@ -29,7 +29,12 @@ fn exit_row(row: &Row, taken: bool, m: &Machine) -> Row
 }
 
 /// What an edge makes of each row.
-fn exit_rows(alloc: Global, rows: &[Row], taken: bool, m: &Machine) -> Result<Vec<Row>, NoMemory>
+pub fn exit_rows(
+    alloc: Global,
+    rows: &[Row],
+    taken: bool,
+    m: &Machine,
+) -> Result<Vec<Row>, NoMemory>
     requires { IsMachine m.now }
     ensures { IfOk result (λ exits. exits.items ≡ map (exit_row_of m.now taken) rows.now) }
 {

@@ -123,7 +123,7 @@ pub fn gather(
         (AreGathered plan.new rows.new.keys table.now (get ⟦<Bundle as PartialEq>⟧.eq known.new)) }
     ensures kept { Keeps plan.old plan.new }
     ensures rows { Extends rows.old.keys rows.new.keys }
-    ensures given { AddsGiven rows.old.keys rows.new.keys table.now bundle.now level }
+    ensures given { AddsGiven rows.old.keys rows.new.keys (row_at table.now bundle.now) level }
 {
     let event = first_event(table, bundle);
     if event == END {

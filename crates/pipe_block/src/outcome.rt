@@ -15,7 +15,7 @@ use wx_base::NoMemory;
 use xdd_table::Table;
 
 /// Rows as outcomes.
-fn listed(alloc: Global, rows: &[Row]) -> Result<Vec<Outcome>, NoMemory>
+pub fn listed(alloc: Global, rows: &[Row]) -> Result<Vec<Outcome>, NoMemory>
     ensures { IfOk result (λ list. list.items ≡ map outcome_of rows.now) }
 {
     let mut list = Vec::new(alloc);

@@ -8,35 +8,30 @@ ghost use Rattle.xdd_table.specs.declared.node.Node.{Node as NodeOf};
 ghost use Rattle.xdd_table.specs.Diagram.{Combination, time, Keeps};
 ghost use Rattle.pipe_block.specs.Events.{IsTimed, entries_of};
 ghost use Rattle.pipe_block.specs.Times.{AreDiagrams, AreTimes};
+ghost use Rattle.pipe_block.specs.Walks.{IsWalk};
 
 use crate::columns::columns;
 use crate::diagrams::BlockVector;
 use crate::state::State;
 use crate::walk::{Course, walk};
+use crate::walked::Walked;
 use flow_block::Block;
 use indexmap::{IndexMap, IndexSet};
 use pipe_time::Vector;
+use std::alloc::Global;
 use wx_base::{Machine, NoMemory};
 use xdd_table::{Dd, Table};
 
-/// The times of a block from a vector, as diagrams over the block's events: their numbers are those of its slots.
+/// Walks through a block from a vector. No instruction jumps. The only error is want of memory.
 ///
-/// No instruction jumps. The only error is want of memory. Equal states of the pipeline before an instruction are walked
-/// on from once, so the time goes by how many different ones there are.
-pub fn block(
-    table: &mut Table,
-    from: &Vector,
-    b: &Block,
-    m: &Machine,
-) -> Result<BlockVector, NoMemory>
+/// Equal states of the pipeline before an instruction are walked on from once, so the time goes by how many different
+/// ones there are.
+pub fn walk_block(alloc: Global, from: &Vector, b: &Block, m: &Machine) -> Result<Walked, NoMemory>
     requires small { AreWithin (10 ^ 18) from.now.slots }
     requires timed { IsTimed b.now }
     requires machine { IsMachine m.now }
-    ensures times { IfOk result (AreTimes table.new m.now from.now.slots b.now) }
-    ensures few { IfOk result (λ v. AreDiagrams table.new 12 (v.last ∷ v.slots)) }
-    ensures kept { Keeps table.old table.new }
+    ensures { IfOk result (λ w. IsWalk w.plan w.rows.keys m.now from.now.slots b.now w.root.place) }
 {
-    let alloc = table.allocator();
     let course = Course {
         insns: b.insns.as_slice(),
         events: b.slots.as_slice(),
@@ -54,7 +49,28 @@ pub fn block(
     let mut rows = IndexSet::new(alloc);
     let mut known = IndexMap::new(alloc);
     let root = walk(&course, &state, &mut plan, &mut rows, &mut known)?;
-    let all = columns(table, &plan, root, rows.as_slice())?;
+    Ok(Walked { plan, root, rows })
+}
+
+/// The times of a block from a vector, as diagrams over the block's events: their numbers are those of its slots.
+///
+/// No instruction jumps. The only error is want of memory.
+pub fn block(
+    table: &mut Table,
+    from: &Vector,
+    b: &Block,
+    m: &Machine,
+) -> Result<BlockVector, NoMemory>
+    requires small { AreWithin (10 ^ 18) from.now.slots }
+    requires timed { IsTimed b.now }
+    requires machine { IsMachine m.now }
+    ensures times { IfOk result (AreTimes table.new m.now from.now.slots b.now) }
+    ensures few { IfOk result (λ v. AreDiagrams table.new 12 (v.last ∷ v.slots)) }
+    ensures kept { Keeps table.old table.new }
+{
+    let walked = walk_block(table.allocator(), from, b, m)?;
+    let rows = walked.rows.as_slice();
+    let all = columns(table, &walked.plan, walked.root, rows)?;
     let slots = all.slots;
     Ok(BlockVector {
         slots,

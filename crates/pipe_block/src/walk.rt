@@ -5,8 +5,8 @@ ghost use Rattle.indexmap.specs.IndexMap.{get};
 ghost use Rattle.wx_base.specs.Machine.{IsMachine};
 ghost use Rattle.wx_base.specs.Vector.{AreWithin};
 ghost use Rattle.xdd_table.specs.Diagram.{Keeps};
-ghost use Rattle.pipe_block.specs.Rows.{Extends};
-ghost use Rattle.pipe_block.specs.Walks.{IsNextEvent, NoneHere, decided_state, passed_state, bound_at, IsCourse, IsState, LeadsOn, AreWalked};
+ghost use Rattle.pipe_block.specs.Rows.{AddsGiven, Extends};
+ghost use Rattle.pipe_block.specs.Walks.{IsNextEvent, NoneHere, decided_state, passed_state, bound_at, IsCourse, IsState, LeadsOn, AreWalked, row_of_state};
 
 use crate::arrival::arrive;
 use crate::row::Row;
@@ -103,6 +103,8 @@ pub fn walk(
         course.now.machine.now course.now.insns.now course.now.events.now (get ⟦<State as PartialEq>⟧.eq known.new)) }
     ensures kept { Keeps plan.old plan.new }
     ensures rows { Extends rows.old.keys rows.new.keys }
+    ensures given { AddsGiven rows.old.keys rows.new.keys
+        (row_of_state course.now.machine.now course.now.insns.now course.now.events.now state.now) state.now.decided }
 {
     if let Some(kind) = state.next_event(course.events) {
         if let Some(answer) = known.get(state) {

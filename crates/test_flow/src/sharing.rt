@@ -8,14 +8,14 @@ use crate::programs::{program_of, push_refusal};
 use crate::unfoldings::push_unfold_error;
 use anyhow::{Result, ensure};
 use flow_ctx::{Unfolded, unfold};
-use pipe_block::{BlockMemo, block_at, kept_answers_stay};
+use pipe_block::{EndMemo, Site, finish_at, kept_answers_stay, leave_at};
 use pipe_time::{Vector, VectorPool};
 use std::alloc::Global;
 use wx_base::Machine;
 use xdd_table::Table;
 
-/// Appends whether the blocks of two nodes have one place in each slot. The case is the two numbers of the nodes and the
-/// program.
+/// Appends whether the blocks of two nodes share their answers: the finish, and what is handed on where the last
+/// instruction jumps and where it does not. The case is the two numbers of the nodes and the program.
 pub fn push_shared(alloc: Global, out: &mut String, case: &str) -> Result<()> {
     let (numbers, case) = pair(case, " | ")?;
     let (first, second) = pair(numbers, " ")?;
@@ -53,17 +53,28 @@ fn push_places(
     let mut pool = VectorPool::new(alloc);
     let place = pool.intern(&Vector::zero())?;
     let mut table = Table::new(alloc);
-    let mut memo = BlockMemo::new(alloc);
-    let one = block_at(&mut table, &mut memo, &pool, place, u, first, machine)?;
-    let other = block_at(&mut table, &mut memo, &pool, place, u, second, machine)?;
-    write!(
-        out,
-        " {}",
-        if one == other {
-            "one place in each slot"
-        } else {
-            "different places"
-        }
-    )?;
+    let mut memo = EndMemo::new(alloc);
+    let one = Site {
+        unfolded: u,
+        node: first,
+        machine,
+    };
+    let other = Site {
+        unfolded: u,
+        node: second,
+        machine,
+    };
+    let finish = finish_at(&mut table, &mut memo, &pool, place, &one)?;
+    let behind = leave_at(&mut table, &mut memo, &pool, place, &one, false)?;
+    let jumped = leave_at(&mut table, &mut memo, &pool, place, &one, true)?;
+    let is_shared = finish == finish_at(&mut table, &mut memo, &pool, place, &other)?
+        && behind == leave_at(&mut table, &mut memo, &pool, place, &other, false)?
+        && jumped == leave_at(&mut table, &mut memo, &pool, place, &other, true)?;
+    let verdict = if is_shared {
+        "one finish, one leaving of each kind"
+    } else {
+        "different answers"
+    };
+    write!(out, " {verdict}")?;
     Ok(())
 }

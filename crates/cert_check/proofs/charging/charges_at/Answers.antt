@@ -1,8 +1,8 @@
 use Rattle.std.proofs.Common.{◌≡◌, List, length, subst, sym, ap, ◌∙◌, arith}
 use Rattle.flow_block.specs.declared.block.Slot.{Slot}
 use Rattle.cert_prices.specs.Keys.{AreEventCharges, charge_in}
-use Rattle.cert_check.specs.Judging.{IsSite}
-use Rattle.cert_check.proofs.ChargeLemmas.{kinds_long, site_of}
+use Rattle.cert_check.specs.Judging.{AreChargesOf}
+use Rattle.cert_check.proofs.ChargeLemmas.{kinds_long, charges_of}
 use Rattle.cert_check.proofs.ResultLemmas.{ok_more}
 use Rattle.std.proofs.lemmas.Option.{same_Some}
 use Rattle.cache_class.specs.declared.class.Class.{Class}
@@ -34,9 +34,9 @@ returns c = λ kinds at.
     let events : c.as_slice-events.result.now ≡ block.slots = c.as_slice-events.ensures in
     let same : found ≡ kinds = same_Some found kinds (sym c.classes_at.ensures ∙ at) in
     ok_more c.event_charges.result (λ amounts. AreEventCharges (charge_in s.charges.now) c.as_slice-events.result.now found amounts.items)
-    (λ amounts. IsSite u s.classes.now s.certificate.now c.args.node kinds amounts.items)
+    (λ amounts. AreChargesOf u s.classes.now s.certificate.now c.args.node kinds amounts.items)
     (λ amounts are.
-    site_of u s.machine.now s.classes.now s.certificate.now s.charges.now c.args.node block kinds amounts.items c.requires.subject c.requires.charges
+    charges_of u s.machine.now s.classes.now s.certificate.now s.charges.now c.args.node block kinds amounts.items c.requires.subject c.requires.charges
     c.misses_are_charged.ensures (c.blocks_are_timed.ensures.nodes s.machine.now u c.args.node block c.requires.subject.unfolded c.block.ensures).few
     c.block.ensures at
     (subst (λ (ks : List Class). AreEventCharges (charge_in s.charges.now) block.slots ks amounts.items) same

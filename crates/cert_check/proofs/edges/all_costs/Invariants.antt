@@ -1,6 +1,6 @@
 use Rattle.std.proofs.Common.{◌≡◌, ℕ, ◌<◌, length}
 use Rattle.xdd_table.specs.Diagram.{Keeps}
-use Rattle.pipe_block.specs.Kept.{AreRight}
+use Rattle.node_exits.specs.NodeExits.{IsRight}
 use Rattle.cert_rules.specs.Rules.{PaysEdges}
 use Rattle.cert_check.specs.Judging.{IsCut}
 use Rattle.cert_check.specs.Places.{Along, AreNodeCosts}
@@ -14,6 +14,6 @@ invariant-loop-node l =
       long : length l.all.items ≡ l.node;
       along : Along (λ node family ds. AreNodeCosts l.table s.unfolded.now s.machine.now node family ds) s.certificate.now.families l.all.items;
       pays : (earlier place : ℕ) → earlier < l.node → PaysEdges s.unfolded.now s.machine.now s.classes.now s.certificate.now earlier place;
-      right : AreRight l.table l.work.pool s.machine.now s.unfolded.now l.work.memo;
+      right : IsRight l.table s.unfolded.now s.machine.now l.work;
       kept : Keeps l.fn.table l.table;
     }

@@ -1,11 +1,11 @@
-use Rattle.std.proofs.Common.{◌≡◌, ℕ, ◌+◌, ◌<◌, ◌≤◌, List, [], length, get_or, slice_get, Some, false, refl, sym, ap, subst, ◌∙◌, arith}
+use Rattle.std.proofs.Common.{◌≡◌, ℕ, ◌+◌, ◌<◌, List, length, get_or, slice_get, Some, false, refl, sym, ap, subst, ◌∙◌, arith}
 use Rattle.std.proofs.lemmas.Option.{slice_get-get_or}
 use Rattle.flow_ctx.specs.declared.unfolded.Edge.{Edge}
 use Rattle.xdd_table.specs.declared.node.Dd.{Dd}
 use Rattle.cert_check.specs.Places.{IsCost}
 use Rattle.cert_check.proofs.CostLemmas.{costs_all, costs_more, costs_none, edges_all, edges_more}
 use Rattle.cert_check.proofs.ListLemmas.{one_longer}
-use Rattle.cert_check.proofs.StayLemmas.{keeps_self, keeps_twice}
+use Rattle.cert_check.proofs.StayLemmas.{keeps_self, keeps_twice, site_stays}
 use Rattle.cert_check.proofs.edges.costs_along.Goals as goal
 
 abbrev none : Edge
@@ -23,7 +23,8 @@ loop-number-init c =
           → IsCost c.args.table.now s.unfolded.now s.machine.now c.args.v.now e d) (sym c.new-costs.ensures.items)
           (costs_none c.args.table.now s.unfolded.now s.machine.now c.args.v.now first);
       pays = λ number g l. absurd (omega (arith, g, l));
-      exits = c.requires.exits;
+      site = c.requires.site;
+      right = c.requires.right;
       kept = keeps_self c.args.table.now;
     }
 
@@ -56,7 +57,8 @@ loop-number-preserved c =
       long = let more = one_longer c.loop-number.costs.items c.push.new.self.items c.in-Some.cost (length c.loop-number.costs.items) refl grown in omega (arith, more, inv.long);
       costs = costs_more old new kept u m v first i edge c.in-Some.cost c.loop-number.costs.items c.push.new.self.items inv.long at found.1 grown inv.costs;
       pays = edges_more u m s.classes.now s.certificate.now v first i found.0 inv.pays;
-      exits = c.paid_cost.ensures.exits;
+      site = site_stays old new kept u s.classes.now s.certificate.now c.args.site.now.node c.args.site.now.classes.now c.args.site.now.charged inv.site;
+      right = c.paid_cost.ensures.right;
       kept = keeps_twice c.args.table.now old new inv.kept kept;
     }
 

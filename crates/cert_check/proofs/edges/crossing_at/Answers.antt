@@ -1,6 +1,4 @@
-use Rattle.std.proofs.Common.{◌<◌, ◌^◌, length, slice_index, subst, sym, ap, ◌∙◌, arith}
-use Rattle.std.proofs.lemmas.Option.{slice_get_within}
-use Rattle.std.proofs.lemmas.List.Elements.{All-get_or}
+use Rattle.std.proofs.Common.{arith}
 use Rattle.cert_check.proofs.PayLemmas.{target_within}
 use Rattle.cert_check.proofs.edges.crossing_at.Goals as goal
 

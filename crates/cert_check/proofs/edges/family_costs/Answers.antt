@@ -1,13 +1,12 @@
-use Rattle.std.proofs.Common.{◌≡◌, ℕ, ◌+◌, ◌<◌, List, [], length, get_or, slice_get, Some, refl, sym, ap, subst, arith}
+use Rattle.std.proofs.Common.{ℕ, List, [], length, get_or, refl, sym, ap, subst, arith}
 use Rattle.std.proofs.lemmas.Option.{slice_get-get_or}
 use Rattle.xdd_table.specs.declared.node.Dd.{Dd}
-use Rattle.xdd_table.specs.declared.node.Node.{Node}
 use Rattle.cert_text.specs.declared.certificate.CertVector.{CertVector}
 use Rattle.cert_check.specs.Judging.{VectorPaysEdges}
 use Rattle.cert_check.specs.Places.{Along, AreVectorCosts}
 use Rattle.cert_check.proofs.ListLemmas.{along_none, front_step, one_longer}
 use Rattle.cert_check.proofs.NameLemmas.{family_all, family_fails, family_more}
-use Rattle.cert_check.proofs.StayLemmas.{keeps_self, keeps_twice, vector_costs_stay}
+use Rattle.cert_check.proofs.StayLemmas.{keeps_self, keeps_twice, site_stays, vector_costs_stay}
 use Rattle.cert_check.proofs.edges.family_costs.Goals as goal
 
 abbrev none : CertVector
@@ -21,12 +20,13 @@ loop-place-init c =
       long = ap (λ (xs : List (List Dd)). length xs) c.new-costs.ensures.items;
       along = subst (λ (xs : List (List Dd)). Along P c.args.family.now xs) (sym c.new-costs.ensures.items) (along_none P c.args.family.now);
       pays = λ earlier l. absurd (omega (arith, l));
+      site = c.requires.site;
       right = c.requires.right;
       kept = keeps_self c.args.table.now;
     }
 
-pub paid_costs-requires-clause-small : goal.paid_costs-requires-clause-small
-paid_costs-requires-clause-small c = c.requires.small c.loop-place.place none c.loop-place-test.true
+pub costs_along-requires-clause-small : goal.costs_along-requires-clause-small
+costs_along-requires-clause-small c = c.requires.small c.loop-place.place none c.loop-place-test.true
 
 pub loop-place-preserved : goal.loop-place-preserved
 loop-place-preserved c =
@@ -40,8 +40,8 @@ loop-place-preserved c =
     let v = get_or family i none in
     let at = slice_get-get_or family i none c.loop-place-test.true in
     let old = c.loop-place.table in
-    let new = c.paid_costs.new.table in
-    let kept = c.paid_costs.ensures.kept in
+    let new = c.costs_along.new.table in
+    let kept = c.costs_along.ensures.kept in
     let found = rw c.in-Some.is at c.in_ok-found.ensures.costs in
     let grown = c.in_ok-push-in-Some.ensures.items in
     record {
@@ -49,18 +49,19 @@ loop-place-preserved c =
       along = front_step (λ place w d. AreVectorCosts old u m node w d) (λ place w d. AreVectorCosts new u m node w d) family c.loop-place.costs.items c.push.new.self.items i v c.in-Some.found
           inv.long at (λ k w d is. vector_costs_stay old new kept u m node w d is) found.1 grown inv.along;
       pays = family_more (VectorPaysEdges u m s.classes.now s.certificate.now node) family i v at found.0 inv.pays;
-      right = c.paid_costs.ensures.right;
+      site = site_stays old new kept u s.classes.now s.certificate.now node c.args.site.now.classes.now c.args.site.now.charged inv.site;
+      right = c.costs_along.ensures.right;
       kept = keeps_twice c.args.table.now old new inv.kept kept;
     }
 
 pub returns-in_err-found-clause-kept : goal.returns-in_err-found-clause-kept
-returns-in_err-found-clause-kept c = keeps_twice c.args.table.now c.loop-place.table c.paid_costs.new.table c.loop-place.invariant.kept c.paid_costs.ensures.kept
+returns-in_err-found-clause-kept c = keeps_twice c.args.table.now c.loop-place.table c.costs_along.new.table c.loop-place.invariant.kept c.costs_along.ensures.kept
 
 pub returns-in_err-push-in-Some-clause-kept : goal.returns-in_err-push-in-Some-clause-kept
-returns-in_err-push-in-Some-clause-kept c = keeps_twice c.args.table.now c.loop-place.table c.paid_costs.new.table c.loop-place.invariant.kept c.paid_costs.ensures.kept
+returns-in_err-push-in-Some-clause-kept c = keeps_twice c.args.table.now c.loop-place.table c.costs_along.new.table c.loop-place.invariant.kept c.costs_along.ensures.kept
 
 pub returns-in-None-clause-kept : goal.returns-in-None-clause-kept
-returns-in-None-clause-kept c = keeps_twice c.args.table.now c.loop-place.table c.paid_costs.new.table c.loop-place.invariant.kept c.paid_costs.ensures.kept
+returns-in-None-clause-kept c = keeps_twice c.args.table.now c.loop-place.table c.costs_along.new.table c.loop-place.invariant.kept c.costs_along.ensures.kept
 
 pub returns-in-None-clause-refused : goal.returns-in-None-clause-refused
 returns-in-None-clause-refused c =

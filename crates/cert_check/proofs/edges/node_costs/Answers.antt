@@ -1,11 +1,11 @@
-use Rattle.std.proofs.Common.{◌≡◌, List, sym, subst, ◌∙◌, arith}
+use Rattle.std.proofs.Common.{◌≡◌, sym, ◌∙◌, arith}
 use Rattle.std.proofs.lemmas.Option.{same_Some}
-use Rattle.cert_text.specs.declared.certificate.CertVector.{CertVector}
 use Rattle.cert_rules.specs.Rules.{PaysEdges}
-use Rattle.cert_check.specs.Judging.{FamilyPays, IsSite, NamesPlace, VectorPaysEdges}
+use Rattle.cert_check.specs.Judging.{FamilyPays, NamesPlace, VectorPaysEdges}
 use Rattle.cert_check.proofs.BreakLemmas.{handed_on}
 use Rattle.cert_check.proofs.NameLemmas.{names_alike}
 use Rattle.cert_check.proofs.PayLemmas.{family_small, edges_rule, rule_edges}
+use Rattle.cert_check.proofs.StayLemmas.{keeps_twice}
 use Rattle.cert_check.proofs.edges.node_costs.Goals as goal
 
 pub classes_at-requires : goal.classes_at-requires
@@ -15,7 +15,12 @@ pub family_of-family-requires : goal.family_of-family-requires
 family_of-family-requires c = omega (arith, c.requires.subject.shape.families, c.requires.node)
 
 pub family_costs-requires-clause-site : goal.family_costs-requires-clause-site
-family_costs-requires-clause-site c = rw c.as_slice.ensures.value (c.in_ok-charges.ensures c.classes_at.result.now c.classes_at.ensures)
+family_costs-requires-clause-site c = c.in_ok-charged.ensures.site c.classes_at.result.now c.classes_at.ensures
+
+pub family_costs-requires-clause-right : goal.family_costs-requires-clause-right
+family_costs-requires-clause-right c =
+    let s = c.args.subject.now in
+    c.exits_stay.ensures.work c.args.table.now c.charged_at.new.table s.unfolded.now s.machine.now c.args.work.now c.charged_at.ensures.kept c.requires.right
 
 pub family_costs-requires-clause-small : goal.family_costs-requires-clause-small
 family_costs-requires-clause-small c = family_small c.args.subject.now.certificate.now c.args.node c.family_of-family.result.now c.requires.subject.small c.family_of-family.ensures
@@ -41,3 +46,9 @@ pub returns-clause-pays : goal.returns-clause-pays
 returns-clause-pays c = λ place.
     let s = c.args.subject.now in
     edges_rule s.unfolded.now s.machine.now s.classes.now s.certificate.now c.args.node c.family_of-family.result.now c.family_of-family.ensures place (c.in_ok-costs.ensures.pays place)
+
+pub returns-in_err-costs-clause-kept : goal.returns-in_err-costs-clause-kept
+returns-in_err-costs-clause-kept c = keeps_twice c.args.table.now c.charged_at.new.table c.family_costs.new.table c.charged_at.ensures.kept c.family_costs.ensures.kept
+
+pub returns-clause-kept : goal.returns-clause-kept
+returns-clause-kept c = keeps_twice c.args.table.now c.charged_at.new.table c.family_costs.new.table c.charged_at.ensures.kept c.family_costs.ensures.kept

@@ -1,13 +1,12 @@
-use Rattle.std.proofs.Common.{◌≡◌, ℕ, ◌+◌, ◌<◌, List, [], length, get_or, slice_get, Some, refl, sym, ap, subst, arith}
+use Rattle.std.proofs.Common.{ℕ, List, [], length, get_or, refl, sym, ap, subst, arith}
 use Rattle.std.proofs.lemmas.Option.{slice_get-get_or}
 use Rattle.xdd_table.specs.declared.node.Dd.{Dd}
-use Rattle.xdd_table.specs.declared.node.Node.{Node}
 use Rattle.cert_text.specs.declared.certificate.CertVector.{CertVector}
 use Rattle.cert_check.specs.Judging.{VectorPaysFinish}
 use Rattle.cert_check.specs.Places.{Along, IsFinish}
 use Rattle.cert_check.proofs.ListLemmas.{along_none, front_step, one_longer}
 use Rattle.cert_check.proofs.NameLemmas.{family_all, family_fails, family_more}
-use Rattle.cert_check.proofs.StayLemmas.{keeps_self, keeps_twice, finish_stays}
+use Rattle.cert_check.proofs.StayLemmas.{keeps_self, keeps_twice, finish_stays, site_stays}
 use Rattle.cert_check.proofs.finishes.family_finishes.Goals as goal
 
 abbrev none : CertVector
@@ -21,6 +20,7 @@ loop-place-init c =
       long = ap (λ (xs : List (Dd)). length xs) c.new-finishes.ensures.items;
       along = subst (λ (xs : List (Dd)). Along P c.args.family.now xs) (sym c.new-finishes.ensures.items) (along_none P c.args.family.now);
       pays = λ earlier l. absurd (omega (arith, l));
+      site = c.requires.site;
       right = c.requires.right;
       kept = keeps_self c.args.table.now;
     }
@@ -49,6 +49,7 @@ loop-place-preserved c =
       along = front_step (λ place w d. IsFinish old u m node w d) (λ place w d. IsFinish new u m node w d) family c.loop-place.finishes.items c.push.new.self.items i v c.in-Some.found
           inv.long at (λ k w d is. finish_stays old new kept u m node w d is) found.1 grown inv.along;
       pays = family_more (VectorPaysFinish u m s.classes.now s.certificate.now node) family i v at found.0 inv.pays;
+      site = site_stays old new kept u s.classes.now s.certificate.now node c.args.site.now.classes.now c.args.site.now.charged inv.site;
       right = c.paid_finish.ensures.right;
       kept = keeps_twice c.args.table.now old new inv.kept kept;
     }

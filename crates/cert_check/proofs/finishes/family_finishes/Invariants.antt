@@ -1,7 +1,7 @@
 use Rattle.std.proofs.Common.{◌≡◌, ℕ, ◌<◌, length}
 use Rattle.xdd_table.specs.Diagram.{Keeps}
-use Rattle.pipe_block.specs.Kept.{AreRight}
-use Rattle.cert_check.specs.Judging.{FamilyPays, VectorPaysFinish}
+use Rattle.node_exits.specs.NodeExits.{IsRight}
+use Rattle.cert_check.specs.Judging.{FamilyPays, IsSite, VectorPaysFinish}
 use Rattle.cert_check.specs.Places.{Along, IsFinish}
 use Rattle.cert_check.proofs.finishes.family_finishes.Given as goal
 
@@ -12,6 +12,7 @@ invariant-loop-place l =
       long : length l.finishes.items ≡ l.place;
       along : Along (λ place v d. IsFinish l.table s.unfolded.now s.machine.now l.site.node v d) l.family l.finishes.items;
       pays : (earlier : ℕ) → earlier < l.place → FamilyPays (VectorPaysFinish s.unfolded.now s.machine.now s.classes.now s.certificate.now l.site.node) l.family earlier;
-      right : AreRight l.table l.work.pool s.machine.now s.unfolded.now l.work.memo;
+      site : IsSite l.table s.unfolded.now s.classes.now s.certificate.now l.site.node l.site.classes.now l.site.charged;
+      right : IsRight l.table s.unfolded.now s.machine.now l.work;
       kept : Keeps l.fn.table l.table;
     }

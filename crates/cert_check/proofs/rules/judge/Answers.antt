@@ -1,5 +1,3 @@
-use Rattle.std.proofs.Common.{List, subst, sym}
-use Rattle.std.proofs.lemmas.Option.{slice_get_within}
 use Rattle.cert_rules.specs.Rules.{HasBound}
 use Rattle.cert_check.specs.Judging.{Breaks}
 use Rattle.cert_check.proofs.BreakLemmas.{bound_breaks, denied, handed_on}

@@ -7,7 +7,7 @@ use Rattle.cert_check.proofs.rules.judge_vectors.Goals as goal
 pub all_finishes-requires-clause-right : goal.all_finishes-requires-clause-right
 all_finishes-requires-clause-right c =
     let s = c.args.subject.now in
-    rw c.new-work.ensures.memo (c.kept_answers_stay.ensures.none c.args.table.now c.new-work.result.pool s.machine.now s.unfolded.now)
+    c.new-work.ensures c.args.table.now s.unfolded.now s.machine.now
 
 pub returns-in_err-finishes-clause-refused : goal.returns-in_err-finishes-clause-refused
 returns-in_err-finishes-clause-refused c =

@@ -1,9 +1,9 @@
 use Rattle.std.proofs.Common.{◌+◌, ◌<◌, ◌≤◌, true, false, sym, arith, rules}
 use Rattle.pipe_block.specs.Times.{AreDiagrams}
-use Rattle.pipe_block.specs.Rows.{AreFrom, LeadsTo, parts}
+use Rattle.pipe_block.specs.Rows.{AreFrom, LeadsTo, parts, row_at}
 use Rattle.pipe_block.proofs.Arrivals.{bundle_eq, bundle_eq_sound}
-use Rattle.pipe_block.proofs.Plans.{keeps_twice, extends_self}
-use Rattle.pipe_block.proofs.Gathers.{from_after, gathered_kept, adds_half, adds_twice, adds_row}
+use Rattle.pipe_block.proofs.Plans.{keeps_twice, extends_self, adds_half, adds_twice, adds_row}
+use Rattle.pipe_block.proofs.Gathers.{from_after, gathered_kept}
 use Rattle.pipe_block.proofs.Gathering.{gathered_more, gather_branch, gather_leaf}
 use Rattle.pipe_block.proofs.Walking.{on_ok, if_ok_four}
 use Rattle.pipe_block.proofs.gather.+gather.Goals as goal
@@ -21,7 +21,7 @@ returns-then-event-eq-END-clause-known t c =
 
 pub returns-then-event-eq-END-clause-given : goal.returns-then-event-eq-END-clause-given
 returns-then-event-eq-END-clause-given t c =
-    adds_row c.args.rows.now.keys c.arrive.new.rows.keys c.leaf_row.result c.args.table.now c.args.bundle.now c.args.level c.leaf_row.ensures c.arrive.ensures.only
+    adds_row c.args.rows.now.keys c.arrive.new.rows.keys c.leaf_row.result (row_at c.args.table.now c.args.bundle.now) c.args.level c.leaf_row.ensures c.arrive.ensures.only
 
 pub returns-in-Some-clause-leads : goal.returns-in-Some-clause-leads
 returns-in-Some-clause-leads t c = c.requires.known.each c.args.bundle.now c.in-Some.answer.now (sym c.in-Some.ensures.value)
@@ -38,8 +38,8 @@ gather-requires t c =
 
 pub returns-in_err-hit-clause-given : goal.returns-in_err-hit-clause-given
 returns-in_err-hit-clause-given t c =
-    adds_half c.args.table.now c.args.bundle.now c.cofactors-hits.result c.args.level c.first_event-event.result false
-    (c.first_event-event.ensures.level c.args.level c.requires.level c.requires.from) c.cofactors-hits.ensures c.args.rows.now.keys c.gather.new.rows.keys c.gather.ensures.given
+    adds_half (row_at c.args.table.now c.args.bundle.now) (row_at c.args.table.now c.cofactors-hits.result) c.args.level c.first_event-event.result false
+    (c.first_event-event.ensures.level c.args.level c.requires.level c.requires.from) c.cofactors-hits.ensures.times c.args.rows.now.keys c.gather.new.rows.keys c.gather.ensures.given
 
 pub gather-requires-2 : goal.gather-requires-2
 gather-requires-2 t c =
@@ -57,30 +57,30 @@ returns-in_err-miss-clause-kept t c = keeps_twice c.args.plan.now c.gather.new.p
 pub returns-in_err-miss-clause-given : goal.returns-in_err-miss-clause-given
 returns-in_err-miss-clause-given t c =
     let lv = c.first_event-event.ensures.level c.args.level c.requires.level c.requires.from in
-    adds_twice c.args.rows.now.keys c.gather.new.rows.keys c.gather-2.new.rows.keys c.args.table.now c.args.bundle.now c.args.level
-    (adds_half c.args.table.now c.args.bundle.now c.cofactors-hits.result c.args.level c.first_event-event.result false lv c.cofactors-hits.ensures c.args.rows.now.keys c.gather.new.rows.keys c.gather.ensures.given)
-    (adds_half c.args.table.now c.args.bundle.now c.cofactors-misses.result c.args.level c.first_event-event.result true lv c.cofactors-misses.ensures c.gather.new.rows.keys c.gather-2.new.rows.keys c.gather-2.ensures.given)
+    adds_twice c.args.rows.now.keys c.gather.new.rows.keys c.gather-2.new.rows.keys (row_at c.args.table.now c.args.bundle.now) c.args.level
+    (adds_half (row_at c.args.table.now c.args.bundle.now) (row_at c.args.table.now c.cofactors-hits.result) c.args.level c.first_event-event.result false lv c.cofactors-hits.ensures.times c.args.rows.now.keys c.gather.new.rows.keys c.gather.ensures.given)
+    (adds_half (row_at c.args.table.now c.args.bundle.now) (row_at c.args.table.now c.cofactors-misses.result) c.args.level c.first_event-event.result true lv c.cofactors-misses.ensures.times c.gather.new.rows.keys c.gather-2.new.rows.keys c.gather-2.ensures.given)
 
 pub returns-in_err-answer-clause-given : goal.returns-in_err-answer-clause-given
 returns-in_err-answer-clause-given t c =
     let lv = c.first_event-event.ensures.level c.args.level c.requires.level c.requires.from in
-    adds_twice c.args.rows.now.keys c.gather.new.rows.keys c.gather-2.new.rows.keys c.args.table.now c.args.bundle.now c.args.level
-    (adds_half c.args.table.now c.args.bundle.now c.cofactors-hits.result c.args.level c.first_event-event.result false lv c.cofactors-hits.ensures c.args.rows.now.keys c.gather.new.rows.keys c.gather.ensures.given)
-    (adds_half c.args.table.now c.args.bundle.now c.cofactors-misses.result c.args.level c.first_event-event.result true lv c.cofactors-misses.ensures c.gather.new.rows.keys c.gather-2.new.rows.keys c.gather-2.ensures.given)
+    adds_twice c.args.rows.now.keys c.gather.new.rows.keys c.gather-2.new.rows.keys (row_at c.args.table.now c.args.bundle.now) c.args.level
+    (adds_half (row_at c.args.table.now c.args.bundle.now) (row_at c.args.table.now c.cofactors-hits.result) c.args.level c.first_event-event.result false lv c.cofactors-hits.ensures.times c.args.rows.now.keys c.gather.new.rows.keys c.gather.ensures.given)
+    (adds_half (row_at c.args.table.now c.args.bundle.now) (row_at c.args.table.now c.cofactors-misses.result) c.args.level c.first_event-event.result true lv c.cofactors-misses.ensures.times c.gather.new.rows.keys c.gather-2.new.rows.keys c.gather-2.ensures.given)
 
 pub returns-in_err-insert-clause-given : goal.returns-in_err-insert-clause-given
 returns-in_err-insert-clause-given t c =
     let lv = c.first_event-event.ensures.level c.args.level c.requires.level c.requires.from in
-    adds_twice c.args.rows.now.keys c.gather.new.rows.keys c.gather-2.new.rows.keys c.args.table.now c.args.bundle.now c.args.level
-    (adds_half c.args.table.now c.args.bundle.now c.cofactors-hits.result c.args.level c.first_event-event.result false lv c.cofactors-hits.ensures c.args.rows.now.keys c.gather.new.rows.keys c.gather.ensures.given)
-    (adds_half c.args.table.now c.args.bundle.now c.cofactors-misses.result c.args.level c.first_event-event.result true lv c.cofactors-misses.ensures c.gather.new.rows.keys c.gather-2.new.rows.keys c.gather-2.ensures.given)
+    adds_twice c.args.rows.now.keys c.gather.new.rows.keys c.gather-2.new.rows.keys (row_at c.args.table.now c.args.bundle.now) c.args.level
+    (adds_half (row_at c.args.table.now c.args.bundle.now) (row_at c.args.table.now c.cofactors-hits.result) c.args.level c.first_event-event.result false lv c.cofactors-hits.ensures.times c.args.rows.now.keys c.gather.new.rows.keys c.gather.ensures.given)
+    (adds_half (row_at c.args.table.now c.args.bundle.now) (row_at c.args.table.now c.cofactors-misses.result) c.args.level c.first_event-event.result true lv c.cofactors-misses.ensures.times c.gather.new.rows.keys c.gather-2.new.rows.keys c.gather-2.ensures.given)
 
 pub returns-clause-given : goal.returns-clause-given
 returns-clause-given t c =
     let lv = c.first_event-event.ensures.level c.args.level c.requires.level c.requires.from in
-    adds_twice c.args.rows.now.keys c.gather.new.rows.keys c.gather-2.new.rows.keys c.args.table.now c.args.bundle.now c.args.level
-    (adds_half c.args.table.now c.args.bundle.now c.cofactors-hits.result c.args.level c.first_event-event.result false lv c.cofactors-hits.ensures c.args.rows.now.keys c.gather.new.rows.keys c.gather.ensures.given)
-    (adds_half c.args.table.now c.args.bundle.now c.cofactors-misses.result c.args.level c.first_event-event.result true lv c.cofactors-misses.ensures c.gather.new.rows.keys c.gather-2.new.rows.keys c.gather-2.ensures.given)
+    adds_twice c.args.rows.now.keys c.gather.new.rows.keys c.gather-2.new.rows.keys (row_at c.args.table.now c.args.bundle.now) c.args.level
+    (adds_half (row_at c.args.table.now c.args.bundle.now) (row_at c.args.table.now c.cofactors-hits.result) c.args.level c.first_event-event.result false lv c.cofactors-hits.ensures.times c.args.rows.now.keys c.gather.new.rows.keys c.gather.ensures.given)
+    (adds_half (row_at c.args.table.now c.args.bundle.now) (row_at c.args.table.now c.cofactors-misses.result) c.args.level c.first_event-event.result true lv c.cofactors-misses.ensures.times c.gather.new.rows.keys c.gather-2.new.rows.keys c.gather-2.ensures.given)
 
 pub returns-in_err-answer-clause-kept : goal.returns-in_err-answer-clause-kept
 returns-in_err-answer-clause-kept t c =

@@ -1,9 +1,9 @@
 use Rattle.std.proofs.Common.{◌≡◌, ◌+◌, ◌<◌, true, false, length, sym, ap, ◌∙◌, arith, rules}
-use Rattle.pipe_block.specs.Walks.{IsState, LeadsOn}
+use Rattle.pipe_block.specs.Walks.{IsState, LeadsOn, row_of_state}
 use Rattle.pipe_block.proofs.Arrivals.{state_eq, state_eq_sound}
-use Rattle.pipe_block.proofs.Plans.{keeps_twice, extends_self}
+use Rattle.pipe_block.proofs.Plans.{keeps_twice, extends_self, adds_twice, adds_none}
 use Rattle.pipe_block.proofs.Steps.{decided_is_state}
-use Rattle.pipe_block.proofs.Walking.{walked_kept, walked_more, walk_branch, walk_on, walk_last, on_ok, if_ok, if_ok_four}
+use Rattle.pipe_block.proofs.Walking.{walked_kept, walked_more, walk_branch, walk_on, walk_last, adds_decided, adds_passed, adds_last, on_ok, if_ok, if_ok_four}
 use Rattle.pipe_block.proofs.walk.+walk.Goals as goal
 
 pub returns-in-Some-get-clause-leads : goal.returns-in-Some-get-clause-leads
@@ -92,3 +92,51 @@ returns-clause-leads t c =
     (λ d. LeadsOn c.walk-2.new.plan c.walk-2.new.rows.keys m insns events s d.place) c.walk-2.ensures.leads
     (λ d w. walk_on m insns events c.windows_go_on.ensures.times c.windows_go_on.ensures.slots c.requires.machine c.walk-2.new.plan c.walk-2.new.rows.keys s c.pass-end.result.1 d.place
     c.requires.state c.in_default.ensures.none (ap (λ r. r.1) c.pass-end.ensures.passed) l w)
+
+pub returns-in-Some-get-clause-given : goal.returns-in-Some-get-clause-given
+returns-in-Some-get-clause-given t c = adds_none c.args.rows.now.keys (row_of_state c.args.course.now.machine.now c.args.course.now.insns.now c.args.course.now.events.now c.args.state.now) c.args.state.now.decided
+
+pub returns-in_err-hit-clause-given : goal.returns-in_err-hit-clause-given
+returns-in_err-hit-clause-given t c =
+    adds_decided c.args.course.now.machine.now c.args.course.now.insns.now c.args.course.now.events.now c.args.state.now c.in-Some.kind false c.in-Some.ensures.some c.args.rows.now.keys c.walk.new.rows.keys (rw c.decide.ensures at c.walk.ensures.given)
+
+pub returns-in_err-miss-clause-given : goal.returns-in_err-miss-clause-given
+returns-in_err-miss-clause-given t c =
+    adds_twice c.args.rows.now.keys c.walk.new.rows.keys c.walk-in-Some.new.rows.keys (row_of_state c.args.course.now.machine.now c.args.course.now.insns.now c.args.course.now.events.now c.args.state.now) c.args.state.now.decided
+    (adds_decided c.args.course.now.machine.now c.args.course.now.insns.now c.args.course.now.events.now c.args.state.now c.in-Some.kind false c.in-Some.ensures.some c.args.rows.now.keys c.walk.new.rows.keys (rw c.decide.ensures at c.walk.ensures.given))
+    (adds_decided c.args.course.now.machine.now c.args.course.now.insns.now c.args.course.now.events.now c.args.state.now c.in-Some.kind true c.in-Some.ensures.some c.walk.new.rows.keys c.walk-in-Some.new.rows.keys (rw c.decide-in-Some.ensures at c.walk-in-Some.ensures.given))
+
+pub returns-in_err-answer-clause-given : goal.returns-in_err-answer-clause-given
+returns-in_err-answer-clause-given t c =
+    adds_twice c.args.rows.now.keys c.walk.new.rows.keys c.walk-in-Some.new.rows.keys (row_of_state c.args.course.now.machine.now c.args.course.now.insns.now c.args.course.now.events.now c.args.state.now) c.args.state.now.decided
+    (adds_decided c.args.course.now.machine.now c.args.course.now.insns.now c.args.course.now.events.now c.args.state.now c.in-Some.kind false c.in-Some.ensures.some c.args.rows.now.keys c.walk.new.rows.keys (rw c.decide.ensures at c.walk.ensures.given))
+    (adds_decided c.args.course.now.machine.now c.args.course.now.insns.now c.args.course.now.events.now c.args.state.now c.in-Some.kind true c.in-Some.ensures.some c.walk.new.rows.keys c.walk-in-Some.new.rows.keys (rw c.decide-in-Some.ensures at c.walk-in-Some.ensures.given))
+
+pub returns-in_err-insert-clause-given : goal.returns-in_err-insert-clause-given
+returns-in_err-insert-clause-given t c =
+    adds_twice c.args.rows.now.keys c.walk.new.rows.keys c.walk-in-Some.new.rows.keys (row_of_state c.args.course.now.machine.now c.args.course.now.insns.now c.args.course.now.events.now c.args.state.now) c.args.state.now.decided
+    (adds_decided c.args.course.now.machine.now c.args.course.now.insns.now c.args.course.now.events.now c.args.state.now c.in-Some.kind false c.in-Some.ensures.some c.args.rows.now.keys c.walk.new.rows.keys (rw c.decide.ensures at c.walk.ensures.given))
+    (adds_decided c.args.course.now.machine.now c.args.course.now.insns.now c.args.course.now.events.now c.args.state.now c.in-Some.kind true c.in-Some.ensures.some c.walk.new.rows.keys c.walk-in-Some.new.rows.keys (rw c.decide-in-Some.ensures at c.walk-in-Some.ensures.given))
+
+pub returns-in-Some-clause-given : goal.returns-in-Some-clause-given
+returns-in-Some-clause-given t c =
+    adds_twice c.args.rows.now.keys c.walk.new.rows.keys c.walk-in-Some.new.rows.keys (row_of_state c.args.course.now.machine.now c.args.course.now.insns.now c.args.course.now.events.now c.args.state.now) c.args.state.now.decided
+    (adds_decided c.args.course.now.machine.now c.args.course.now.insns.now c.args.course.now.events.now c.args.state.now c.in-Some.kind false c.in-Some.ensures.some c.args.rows.now.keys c.walk.new.rows.keys (rw c.decide.ensures at c.walk.ensures.given))
+    (adds_decided c.args.course.now.machine.now c.args.course.now.insns.now c.args.course.now.events.now c.args.state.now c.in-Some.kind true c.in-Some.ensures.some c.walk.new.rows.keys c.walk-in-Some.new.rows.keys (rw c.decide-in-Some.ensures at c.walk-in-Some.ensures.given))
+
+pub returns-then-next-course-clause-given : goal.returns-then-next-course-clause-given
+returns-then-next-course-clause-given t c =
+    let s = c.args.state.now in
+    let is : s.at + 1 ≡ length c.args.course.now.insns.now = sym (ap (λ r. r.1.at) c.pass-end.ensures.passed) ∙ c.if-next-course.true in
+    adds_last c.args.course.now.machine.now c.args.course.now.insns.now c.args.course.now.events.now s (record { number = c.pass-end.result.0; slots = c.pass-end.result.1.slots })
+    c.requires.state c.in_default.ensures.none is (ap (λ r. record { number = r.0; slots = r.1.slots }) c.pass-end.ensures.passed)
+    c.args.rows.now.keys c.arrive.new.rows.keys c.arrive.ensures.only
+
+pub returns-clause-given : goal.returns-clause-given
+returns-clause-given t c =
+    let s = c.args.state.now in
+    let at : c.pass-end.result.1.at ≡ s.at + 1 = ap (λ r. r.1.at) c.pass-end.ensures.passed in
+    let within : s.at < length c.args.course.now.insns.now = c.requires.state.within in
+    let l : s.at + 1 < length c.args.course.now.insns.now = omega (arith, c.if-next-course.false) in
+    adds_passed c.args.course.now.machine.now c.args.course.now.insns.now c.args.course.now.events.now c.windows_go_on.ensures.times c.windows_go_on.ensures.slots c.requires.machine s c.pass-end.result.1
+    c.requires.state c.in_default.ensures.none (ap (λ r. r.1) c.pass-end.ensures.passed) l c.args.rows.now.keys c.walk-2.new.rows.keys c.walk-2.ensures.given

@@ -1,0 +1,2 @@
+mod ExitLemmas
+mod StayLemmas
