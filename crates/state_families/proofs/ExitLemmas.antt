@@ -1,5 +1,5 @@
 -- The slots of exits lie within the machine's horizon.
-use Rattle.std.proofs.Common.{◌≡◌, ℕ, zero, suc, ◌+◌, ◌-◌, ◌<◌, ◌≤◌, Bool, List, [], ◌∷◌, length, map, max, get_or, slice_get, Some, All, ◌↔◌, refl, sym, ap, subst, ◌∙◌, inl, inr, arith}
+use Rattle.std.proofs.Common.{◌≡◌, ℕ, zero, suc, ◌-◌, ◌<◌, ◌≤◌, Bool, List, [], ◌∷◌, length, max, slice_get, Some, ◌↔◌, refl, sym, ap, subst, ◌∙◌, inl, inr, arith}
 use Rattle.std.specs.List.{Contains}
 use Rattle.std.proofs.lemmas.Bool.{cases_lt}
 use Rattle.std.proofs.lemmas.List.{get_or_past, get_or-map, length-map, length-set}
@@ -107,6 +107,9 @@ module _ (u : Unfolded) (m : Machine) (classes : Classes) (numbers : List ℕ) (
         listed = subst (λ (n : ℕ). IsListedAt fresh n a.source) (sym x.leaves) a.listed;
         exits = x.exits;
       }
+
+pub exit_to_bounded : (u : Unfolded) (m : Machine) (classes : Classes) (from to : ℕ) (source slots : List ℕ) → IsExitTo u m classes from to source slots → IsBounded m.horizon slots
+exit_to_bounded u m classes from to source slots e = exit_of_bounded u m classes e.edge source slots e.exits
 
 pub among_bounded : (u : Unfolded) (m : Machine) (classes : Classes) (numbers : List ℕ) (fresh : List (List (List ℕ))) (slots : List ℕ)
     → IsExitAmong u m classes numbers fresh slots → IsBounded m.horizon slots

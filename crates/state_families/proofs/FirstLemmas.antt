@@ -11,9 +11,9 @@ use Rattle.std.proofs.lemmas.Option.{same_Some, slice_get_within}
 use Rattle.wx_base.specs.Recurrence.{slot}
 use Rattle.wx_base.specs.Vector.{slot_count, zero_slots}
 use Rattle.state_families.specs.declared.node_set.NodeSet.{NodeSet}
-use Rattle.state_families.specs.Families.{AreFirst, IsListedAt, IsVectorOf}
+use Rattle.state_families.specs.Families.{AreFirst}
 use Rattle.state_families.specs.Families.AreAfterRounds.{first}
-use Rattle.state_families.specs.Fresh.{AreFirstFresh, AreReached, IsBounded, IsOpen, IsSet}
+use Rattle.state_families.specs.Fresh.{AreFirstFresh, AreReached, IsBounded, IsSet}
 use Rattle.state_families.proofs.SettlingLemmas.{only_one}
 
 zero_at : (k : ℕ) → slot zero_slots k ≡ 0
@@ -33,17 +33,21 @@ none_ascends : IsStrictlySortedBy (slice_cmp nat_cmp) []
 unfolding IsStrictlySortedBy
 none_ascends = tt
 
-abbrev at_first : Bool → List (List ℕ)
+abbrev pub at_first : Bool → List (List ℕ)
 at_first b = if b then zero_slots ∷ [] else []
+
+pub at_first_bounded : (bound : ℕ) (b : Bool) (v : List ℕ) → Contains (at_first b) v → IsBounded bound v
+at_first_bounded bound true v c = subst (IsBounded bound) (only_one zero_slots v c) (zero_bounded bound)
+at_first_bounded bound false v c = absurd (omega (arith, c.1))
 
 first_set : (states bound : ℕ) (b : Bool) → 1 ≤ states → IsSet states bound (record { vectors = at_first b; kept = None })
 first_set states bound true some = record {
   fit = record { ascending = one_ascends; few = some };
-  bounded = λ v c. subst (IsBounded bound) (only_one zero_slots v c) (zero_bounded bound);
+  bounded = at_first_bounded bound true;
 }
 first_set states bound false some = record {
   fit = record { ascending = none_ascends; few = omega arith };
-  bounded = λ v c. absurd (omega (arith, c.1));
+  bounded = at_first_bounded bound false;
 }
 
 pub reached_first : (Exits : ℕ → ℕ → List ℕ → List ℕ → Type 0) (states bound count start : ℕ) (sets : List NodeSet) (fresh : List (List (List ℕ))) → 1 ≤ states

@@ -1,7 +1,7 @@
 -- How a node's vectors grow in a round, and that they may change less often from then on.
-use Rattle.std.proofs.Common.{◌≡◌, ◌==◌, ◌⊎◌, ◌↔◌, ℕ, zero, suc, ◌+◌, ◌-◌, ◌*◌, ◌<◌, ◌≤◌, Bool, true, false, not, cond, if◌then◌else◌, List, [], ◌∷◌, ◌++◌, length, take, max, get_or, slice_get, Option, Some, None, refl, sym, ap, subst, ◌∙◌, inl, inr, arith, true≢false}
+use Rattle.std.proofs.Common.{◌≡◌, ◌==◌, ◌⊎◌, ◌↔◌, ℕ, zero, suc, ◌+◌, ◌-◌, ◌*◌, ◌<◌, ◌≤◌, Bool, true, false, not, cond, if◌then◌else◌, List, [], ◌∷◌, ◌++◌, length, take, max, get_or, Option, Some, None, refl, sym, ap, subst, ◌∙◌, inl, inr, arith, true≢false}
 use Rattle.std.specs.BTreeSet.{BTreeSet, Updates, contains, insert_key}
-use Rattle.std.specs.List.{All, AllByRecursion, Contains, sum_by}
+use Rattle.std.specs.List.{AllByRecursion, Contains, sum_by}
 use Rattle.std.specs.List.Sorted.{IsStrictlySortedBy}
 use Rattle.std.specs.Ordering.{is_eq, nat_cmp, ordering_reverse}
 use Rattle.std.specs.declared.cmp.Ordering.{Ordering}
@@ -18,9 +18,9 @@ use Rattle.std.proofs.lemmas.Map.Views.{btree_set_contains_iff}
 use Rattle.wx_base.specs.Recurrence.{slot}
 use Rattle.wx_base.specs.Vector.{AreWithin, Covers, slot_count}
 use Rattle.state_families.specs.declared.node_set.NodeSet.{NodeSet}
-use Rattle.state_families.specs.Families.{IsGreatest, IsUnion, NextSet}
+use Rattle.state_families.specs.Families.{IsGreatest}
 use Rattle.state_families.specs.Families.NextSet.{grows, joins, stays}
-use Rattle.state_families.specs.Fresh.{IsBounded, IsCoveredBy, IsFit, IsGrown, IsOpen, IsSet, below, left, left_of}
+use Rattle.state_families.specs.Fresh.{IsBounded, IsCoveredBy, IsSet, below}
 use Rattle.state_families.specs.Growth.{AreHigher, IsAdded, IsGrowth, IsMerged, Joins}
 use Rattle.state_families.proofs.SettlingLemmas.{covers_self, covers_twice, next_same, only_one, own_covered, the_one}
 

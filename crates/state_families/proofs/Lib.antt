@@ -7,3 +7,4 @@ mod FirstLemmas
 mod AnswerLemmas
 mod IncomingLemmas
 mod ArrivalLemmas
+mod SmallLemmas

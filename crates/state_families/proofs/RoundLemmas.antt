@@ -1,13 +1,11 @@
 -- A round goes node by node.
 use Rattle.std.proofs.Common.{◌≡◌, ◌⊎◌, ◌↔◌, ℕ, zero, suc, ◌+◌, ◌<◌, ◌≤◌, List, [], ◌∷◌, ◌++◌, length, get_or, set, slice_get, Some, refl, sym, ap, subst, ◌∙◌, inl, inr, arith}
 use Rattle.std.specs.List.{Contains, sum_by}
-use Rattle.std.proofs.lemmas.Bool.{cases_lt, cases_eq}
-use Rattle.std.proofs.lemmas.List.{get_or_append_left, get_or_push, get_or-set_other, get_or-set_same, length-set, length_push}
+use Rattle.std.proofs.lemmas.List.{get_or-set_same, length-set, length_push}
 use Rattle.std.proofs.lemmas.List.Sums.{sum_by-set}
 use Rattle.std.proofs.lemmas.Option.{get_or_from_slice_get, same_Some, slice_get-get_or, slice_get_within}
 use Rattle.state_families.specs.declared.node_set.NodeSet.{NodeSet}
-use Rattle.state_families.specs.Families.{Arrives, IsListedAt, NextSet}
-use Rattle.state_families.specs.Families.NextSet.{grows, joins, stays}
+use Rattle.state_families.specs.Families.{Arrives, IsListedAt}
 use Rattle.state_families.specs.Fresh.{AreGrown, AreGrownTo, IsGrown, left}
 use Rattle.state_families.specs.Growth.{IsGrowth}
 use Rattle.state_families.proofs.SettlingLemmas.{next_more}

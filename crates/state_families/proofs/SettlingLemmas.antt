@@ -1,18 +1,14 @@
 -- Rounds in which each vector brings its exits once: in the round after it came. For a node that is not joined the union of a round is what
 -- it had and the exits of what is new; for a joined one the exits of what is old lie under its one vector.
-use Rattle.std.proofs.Common.{◌≡◌, ◌⊎◌, ◌↔◌, ℕ, zero, suc, ◌+◌, ◌<◌, ◌≤◌, List, [], ◌∷◌, length, take, get_or, slice_get, Option, Some, None, refl, sym, ap, subst, ◌∙◌, inl, inr, arith}
+use Rattle.std.proofs.Common.{◌≡◌, ◌⊎◌, ℕ, zero, suc, ◌<◌, List, [], ◌∷◌, get_or, slice_get, Option, Some, None, refl, sym, subst, ◌∙◌, inl, inr, arith}
 use Rattle.std.specs.List.{Contains}
-use Rattle.std.specs.List.Sorted.{IsStrictlySortedBy}
-use Rattle.std.specs.Ordering.{nat_cmp}
-use Rattle.std.specs.Cmp.Lexicographic.{slice_cmp}
 use Rattle.std.proofs.lemmas.Option.{same_Some, slice_get_within, slice_get-get_or}
-use Rattle.wx_base.specs.Recurrence.{slot}
-use Rattle.wx_base.specs.Vector.{Covers, slot_count}
+use Rattle.wx_base.specs.Vector.{Covers}
 use Rattle.state_families.specs.declared.node_set.NodeSet.{NodeSet}
-use Rattle.state_families.specs.Families.{IsListedAt, IsVectorOf, Arrives, IsGreatest, IsUnion, NextSet, IsInUnion, IsNext, IsRound, AreAfterRounds, AreSettled}
+use Rattle.state_families.specs.Families.{IsListedAt, IsVectorOf, Arrives, IsGreatest, IsUnion, NextSet, IsInUnion, IsRound, AreSettled}
 use Rattle.state_families.specs.Families.NextSet.{grows, joins, stays}
-use Rattle.state_families.specs.Families.AreAfterRounds.{first, next}
-use Rattle.state_families.specs.Fresh.{IsCoveredBy, IsCoveredIn, IsCoveredAt, IsBounded, IsOpen, IsFit, IsSet, IsGrown, AreReached, AreGrown}
+use Rattle.state_families.specs.Families.AreAfterRounds.{next}
+use Rattle.state_families.specs.Fresh.{IsCoveredBy, IsCoveredIn, IsCoveredAt, IsBounded, IsFit, IsSet, IsGrown, AreReached, AreGrown}
 
 -- ---- covering
 pub covers_self : (slots : List ℕ) → Covers slots slots

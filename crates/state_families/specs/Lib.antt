@@ -3,3 +3,4 @@ pub mod Fresh
 pub mod Leaving
 pub mod Growth
 pub mod Incoming
+pub mod Small

@@ -7,6 +7,7 @@ ghost use Rattle.flow_ctx.specs.Unfolding.{most_nodes};
 ghost use Rattle.xdd_table.specs.Diagram.{Keeps};
 ghost use Rattle.cache_class.specs.Classes.{AreClasses};
 ghost use Rattle.state_families.specs.Families.{AreFamilies, joined_from, vector_of};
+ghost use Rattle.state_families.specs.Small.{AreSmall};
 
 use crate::family_set::{FamilySet, Joined, Vectors};
 use crate::node_set::{NodeSet, Slots};
@@ -76,6 +77,7 @@ pub fn families(
     requires few { length u.now.nodes ≤ most_nodes }
     requires classes { AreClasses u.now m.now k.now }
     ensures families { IfOk result (AreFamilies u.now m.now k.now) }
+    ensures small { IfOk result (λ f. AreSmall f.vectors) }
     ensures kept { Keeps table.old table.new }
 {
     let subject = Subject {

@@ -1,4 +1,4 @@
-use Rattle.std.proofs.Common.{ℕ, length}
+use Rattle.std.proofs.Common.{length}
 use Rattle.state_families.specs.Families.{IsExitTo}
 use Rattle.state_families.proofs.ExitLemmas.{exit_into}
 use Rattle.state_families.proofs.SettlingLemmas.{reached_next}

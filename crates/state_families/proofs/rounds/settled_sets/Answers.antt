@@ -1,4 +1,4 @@
-use Rattle.std.proofs.Common.{◌≤◌, length, arith}
+use Rattle.std.proofs.Common.{length}
 use Rattle.state_families.specs.Families.{IsExitTo}
 use Rattle.state_families.proofs.FirstLemmas.{reached_first}
 use Rattle.state_families.proofs.rounds.settled_sets.Goals as goal
