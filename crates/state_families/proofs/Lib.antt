@@ -1,0 +1,10 @@
+mod SettlingLemmas
+mod LeavingLemmas
+mod GrowthLemmas
+mod RoundLemmas
+mod ExitLemmas
+mod FirstLemmas
+mod AnswerLemmas
+mod IncomingLemmas
+mod ArrivalLemmas
+mod SmallLemmas
