@@ -5,7 +5,7 @@ ghost use Rattle.cert_judge.specs.Offers.{offered, IsOffer};
 ghost use Rattle.cert_judge.specs.Payments.{LeadsOn, PaysInto, PaysForEdge, PairPays, AllPay};
 
 use crate::offer::{Offer, offer_diagram};
-use crate::settle::settle;
+use crate::settling::settle;
 use cert_text::CertVector;
 use pipe_block::{BlockExit, Outcome, outcomes};
 use pipe_time::{Vector, covers};

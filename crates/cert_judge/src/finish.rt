@@ -4,7 +4,7 @@ ghost use Rattle.cert_judge.specs.Offers.{offered, IsOffer};
 ghost use Rattle.cert_judge.specs.Payments.{PaysForFinish};
 
 use crate::offer::{Offer, offer_diagram};
-use crate::settle::settle;
+use crate::settling::settle;
 use std::marker::Brand;
 use std::sync::ledger::{Blank, Ledger};
 use wx_base::NoMemory;

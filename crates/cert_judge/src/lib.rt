@@ -6,9 +6,10 @@ mod edge;
 mod finish;
 mod laws;
 mod offer;
-mod settle;
+mod settling;
 
 pub use edge::{Crossing, pays_edge};
 pub use finish::pays_finish;
 pub use laws::misses_are_charged;
 pub use offer::Offer;
+pub use settling::settle;

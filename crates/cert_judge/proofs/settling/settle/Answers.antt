@@ -6,7 +6,7 @@ use Rattle.xdd_table.specs.Diagram.{Combination, time}
 use Rattle.cert_judge.specs.Settled.{settled_event}
 use Rattle.cert_judge.proofs.KeepLemmas.{keeps_self, keeps_twice}
 use Rattle.cert_judge.proofs.SettledLemmas.{none_settled, one_more_settled, settled_at_end}
-use Rattle.cert_judge.proofs.settle.settle.Goals as goal
+use Rattle.cert_judge.proofs.settling.settle.Goals as goal
 
 pub loop-event-init : goal.loop-event-init
 loop-event-init c = record {

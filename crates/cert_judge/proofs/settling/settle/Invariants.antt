@@ -1,7 +1,7 @@
 use Rattle.std.proofs.Common.{◌≡◌, ◌<◌, length}
 use Rattle.xdd_table.specs.Diagram.{Combination, time, Keeps}
 use Rattle.cert_judge.proofs.SettledLemmas.{settled_below}
-use Rattle.cert_judge.proofs.settle.settle.Given as goal
+use Rattle.cert_judge.proofs.settling.settle.Given as goal
 
 abbrev pub invariant-loop-event : goal.invariant-loop-event
 invariant-loop-event l = record {
