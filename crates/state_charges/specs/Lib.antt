@@ -1,0 +1,4 @@
+pub mod Charges
+pub mod Misses
+pub mod Raising
+pub mod Subject
