@@ -1,5 +1,5 @@
 -- Rises from the vectors of a node are rises along an edge that leaves it, and the charges of groups are the greatest rises along all edges.
-use Rattle.std.proofs.Common.{◌≡◌, ℕ, ◌<◌, ◌≤◌, Bool, List, [], length, map, slice_get, slice_index, replicate, Option, Some, Result, Ok, Err, IfOk, refl, sym, ap, subst, ◌∙◌, inl, inr, arith}
+use Rattle.std.proofs.Common.{◌≡◌, ℕ, ◌<◌, ◌≤◌, List, [], length, slice_get, slice_index, replicate, Option, Some, Result, Ok, Err, IfOk, refl, sym, ap, subst, ◌∙◌, inl, inr, arith}
 use Rattle.std.specs.Global.{Vec}
 use Rattle.std.specs.Option.{option_map, option_map_or}
 use Rattle.std.proofs.lemmas.Option.{get_or_from_slice_get, same_Some, slice_get-map, slice_get_within}
@@ -26,7 +26,7 @@ use Rattle.pipe_time.specs.declared.vector.Vector.{Vector}
 use Rattle.state_charges.specs.declared.miss.Miss.{Miss}
 use Rattle.state_charges.specs.Charges.{AreCharges, IsCharge, IsRiseAlong}
 use Rattle.state_charges.specs.Misses.{AreMisses, HaveAmounts, IsMiss}
-use Rattle.state_charges.specs.Raising.{Raises, IsEarly, IsEdgeRise, IsFamilyRise, IsVectorRise, cost_from, rise_at}
+use Rattle.state_charges.specs.Raising.{Raises, IsEarly, IsEdgeRise, IsFamilyRise, cost_from, rise_at}
 use Rattle.state_charges.specs.Subject.{IsFirstMiss}
 use Rattle.state_charges.proofs.RaisingLemmas.{raised_alike, zero_at}
 

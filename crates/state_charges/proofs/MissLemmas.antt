@@ -1,7 +1,7 @@
 -- The events of a block that belong to groups, gathered one by one, and groups with their amounts.
-use Rattle.std.proofs.Common.{◌≡◌, ℕ, ◌+◌, ◌<◌, ◌≤◌, List, [], ◌∷◌, ◌++◌, length, map, take, get_or, slice_get, slice_index, Option, Some, None, refl, sym, ap, subst, ◌∙◌, inl, inr, arith}
+use Rattle.std.proofs.Common.{◌≡◌, ℕ, ◌+◌, ◌<◌, ◌≤◌, List, [], ◌∷◌, ◌++◌, length, map, take, slice_get, slice_index, Option, Some, None, refl, sym, ap, subst, ◌∙◌, inl, inr, arith}
 use Rattle.std.proofs.lemmas.Bool.{cases_lt}
-use Rattle.std.proofs.lemmas.List.{length-map, length-take, map-append, take_all, take_more}
+use Rattle.std.proofs.lemmas.List.{map-append, take_all, take_more}
 use Rattle.std.proofs.lemmas.Option.{get_or_from_slice_get, same_Some, slice_get_within}
 use Rattle.flow_block.specs.declared.block.Slot.{Slot}
 use Rattle.flow_block.specs.declared.block.SlotKind.{SlotKind}
@@ -12,7 +12,7 @@ use Rattle.cache_class.specs.declared.group.Group.{Group}
 use Rattle.cert_text.specs.declared.certificate.Charge.{Charge}
 use Rattle.cert_rules.specs.Rules.{group_of}
 use Rattle.state_charges.specs.declared.miss.Miss.{Miss}
-use Rattle.state_charges.specs.Misses.{AreMisses, ArePlaces, HaveAmounts, IsMiss, event_place, fetch_place, place_in}
+use Rattle.state_charges.specs.Misses.{AreMisses, ArePlaces, HaveAmounts, IsMiss, event_place, fetch_place}
 use Rattle.state_charges.proofs.PushLemmas.{at_push, before_push, of_push}
 
 -- the kind and the class are those of an event of the group at a position

@@ -1,6 +1,5 @@
 -- Rises of a cost whose events are settled by their classes, and rises at allowed combinations.
-use Rattle.std.proofs.Common.{◌≡◌, ◌≢◌, ℕ, ◌-◌, ◌<◌, Bool, true, false, List, length, slice_get, Some, if◌then◌else◌, eqb, refl, sym, ap, subst, ◌∙◌, inl, inr, arith}
-use Rattle.std.specs.Prelude.{◌⊎◌}
+use Rattle.std.proofs.Common.{◌≡◌, ℕ, ◌-◌, Bool, true, false, List, length, slice_get, Some, if◌then◌else◌, eqb, sym, ap, subst, ◌∙◌, inl, inr}
 use Rattle.std.proofs.Math.Path.{fun_ext}
 use Rattle.std.proofs.lemmas.Bool.{cases_Bool, eqb-true}
 use Rattle.std.proofs.lemmas.Option.{same_Some, slice_get_within}
@@ -9,12 +8,10 @@ use Rattle.flow_block.specs.declared.block.Block.{Block}
 use Rattle.flow_ctx.specs.declared.scope.Scope.{Scope}
 use Rattle.cache_class.specs.declared.class.Class.{Class}
 use Rattle.cache_class.specs.declared.class.Class.TheVariants.{FirstMiss}
-use Rattle.cache_class.specs.Allowed.{IsAllowed}
 use Rattle.xdd_table.specs.Diagram.{Combination, with_event}
 use Rattle.pipe_time.specs.declared.vector.Vector.{Vector}
 use Rattle.xdd_table.specs.declared.node.Node.{Node}
 use Rattle.flow_ctx.specs.declared.unfolded.Unfolded.{Unfolded}
-use Rattle.flow_ctx.specs.Nodes.{IsBlockOf}
 use Rattle.pipe_block.specs.declared.diagrams.Leaving.{Leaving}
 use Rattle.node_exits.specs.declared.work.Work.{Work}
 use Rattle.node_exits.specs.NodeExits.{IsAnswer, IsNodeLeaving}

@@ -1,5 +1,5 @@
 -- What a miss of a group's line is charged: the greatest rise of a cost by such a miss. This project's own.
-use Rattle.std.specs.Prelude.{◌≡◌, ◌⊎◌, ℕ, ◌-◌, ◌≤◌, true, false, List, map, All, slice_get, Some}
+use Rattle.std.specs.Prelude.{◌≡◌, ◌⊎◌, ℕ, ◌-◌, ◌≤◌, true, false, List, map, slice_get, Some}
 use Rattle.wx_base.specs.declared.machine.Machine.{Machine}
 use Rattle.wx_base.specs.Blocks.{exit_from}
 use Rattle.xdd_table.specs.Diagram.{Combination, with_event}

@@ -1,4 +1,4 @@
-use Rattle.std.proofs.Common.{◌≡◌, ℕ, List, length, subst, sym, ap, ◌∙◌, replicate}
+use Rattle.std.proofs.Common.{ℕ, List, length, subst, sym, ap, ◌∙◌}
 use Rattle.std.proofs.lemmas.List.{length-replicate}
 use Rattle.cache_class.specs.declared.group.Group.{Group}
 use Rattle.cache_class.specs.Groups.{AreGroups}

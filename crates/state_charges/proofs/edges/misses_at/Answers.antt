@@ -1,9 +1,6 @@
-use Rattle.std.proofs.Common.{◌≡◌, List, length, subst, sym, ap, ◌∙◌, arith}
+use Rattle.std.proofs.Common.{◌≡◌, List, length, sym, ap, ◌∙◌, arith}
 use Rattle.std.proofs.lemmas.Option.{same_Some}
-use Rattle.flow_block.specs.declared.block.Block.{Block}
 use Rattle.flow_block.specs.declared.block.Slot.{Slot}
-use Rattle.cache_class.specs.declared.class.Class.{Class}
-use Rattle.state_charges.specs.Misses.{AreMisses}
 use Rattle.state_charges.proofs.EdgeLemmas.{kinds_long, ok_misses}
 use Rattle.state_charges.proofs.edges.misses_at.Goals as goal
 

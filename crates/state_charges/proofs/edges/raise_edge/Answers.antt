@@ -1,5 +1,4 @@
-use Rattle.std.proofs.Common.{◌≡◌, ◌<◌, ◌≤◌, List, length, sym, subst, arith}
-use Rattle.cache_class.specs.declared.class.Class.{Class}
+use Rattle.std.proofs.Common.{◌≡◌, List, length, sym, subst, arith}
 use Rattle.state_charges.specs.declared.miss.Miss.{Miss}
 use Rattle.state_charges.specs.Misses.{AreMisses}
 use Rattle.state_charges.proofs.EdgeLemmas.{edge_raised, first_misses, kinds_long, leaves_node}

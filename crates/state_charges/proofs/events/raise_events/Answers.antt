@@ -1,4 +1,4 @@
-use Rattle.std.proofs.Common.{◌≡◌, ◌<◌, ℕ, length, get_or, slice_get, Some, subst, arith}
+use Rattle.std.proofs.Common.{◌≡◌, ℕ, length, get_or, slice_get, Some, subst, arith}
 use Rattle.std.proofs.lemmas.Option.{slice_get-get_or}
 use Rattle.xdd_table.specs.Diagram.{time}
 use Rattle.cert_judge.proofs.KeepLemmas.{keeps_self, keeps_twice}

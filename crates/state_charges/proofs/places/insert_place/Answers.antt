@@ -1,5 +1,4 @@
 use Rattle.std.proofs.Common.{ℕ, Option, Some, ap, cond, ◌∙◌}
-use Rattle.std.specs.Map.{lookup}
 use Rattle.state_charges.specs.Misses.{key_of, place_in, same_key}
 use Rattle.state_charges.proofs.places.insert_place.Goals as goal
 

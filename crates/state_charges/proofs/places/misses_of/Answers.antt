@@ -3,7 +3,6 @@ use Rattle.std.specs.Global.{Vec}
 use Rattle.std.proofs.lemmas.Option.{slice_get-get_or}
 use Rattle.flow_block.specs.declared.block.Slot.{Slot}
 use Rattle.flow_block.specs.declared.block.SlotKind.TheVariants.{Fetch}
-use Rattle.cache_class.specs.declared.class.Class.{Class}
 use Rattle.cache_class.specs.declared.class.Class.TheVariants.{AlwaysHit}
 use Rattle.state_charges.specs.declared.miss.Miss.{Miss}
 use Rattle.state_charges.proofs.MissLemmas.{FirstMisses, all_misses, no_misses, none_more, one_more}

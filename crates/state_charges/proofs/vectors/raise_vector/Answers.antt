@@ -1,4 +1,4 @@
-use Rattle.std.proofs.Common.{◌≡◌, ◌<◌, ◌^◌, ◌∙◌, ℕ, length, slice_get, Some, sym, subst, arith}
+use Rattle.std.proofs.Common.{◌^◌, ◌∙◌, length, sym, subst, arith}
 use Rattle.std.proofs.lemmas.Option.{same_Some, slice_get_within}
 use Rattle.wx_base.specs.Vector.{AreWithin}
 use Rattle.xdd_table.specs.Diagram.{time}

@@ -1,4 +1,4 @@
-use Rattle.std.proofs.Common.{◌≡◌, ℕ, length, get_or, slice_get, Some, [], subst, ap, sym, arith}
+use Rattle.std.proofs.Common.{◌≡◌, ℕ, length, get_or, slice_get, Some, [], subst, sym, arith}
 use Rattle.std.proofs.lemmas.Option.{slice_get-get_or}
 use Rattle.cert_judge.proofs.KeepLemmas.{keeps_self, keeps_twice}
 use Rattle.pipe_time.specs.declared.vector.Vector.{Vector}
