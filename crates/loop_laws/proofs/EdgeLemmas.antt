@@ -44,10 +44,10 @@ module _ (program : Program) (u : Unfolded) (l : ULoop) (loop : IsLoop program u
       ap (λ (x : Edge). x.to) (one_element u.edges number edge entry.edge e entry.stands) ∙ entry.into
 
 pub loops_have_edges : LoopsHaveEdges
-loops_have_edges image facts first machine program u l sound unfolds c =
+loops_have_edges image facts first machine program u l built unfolds c =
     let loop = loop_of program u l unfolds c in
     record {
-      head = head_is_member image facts first machine program sound.is u l loop;
+      head = head_is_member image facts first machine program built u l loop;
       members = all_of (λ k. k < length u.nodes) l.members (λ k h. let m = (loop.members k).0 h in slice_get_within u.nodes k m.node m.stands);
       back = all_of (λ k. k < length u.edges) l.back (λ k h. let b = (loop.back k).0 h in slice_get_within u.edges k b.edge b.stands);
       entries = all_of (λ k. k < length u.edges) l.entries (λ k h. let b = (loop.entries k).0 h in slice_get_within u.edges k b.edge b.stands);

@@ -99,10 +99,10 @@ module _ (program : Program) (u : Unfolded) (l m : ULoop) (one : IsLoop program 
         ]
 
 pub smaller_loops_are_within : LoopsAreNested → SmallerLoopsAreWithin
-smaller_loops_are_within law image facts first machine program u l m node sound unfolds c d in_l in_m few =
+smaller_loops_are_within law image facts first machine program u l m node built unfolds c d in_l in_m few =
     let one = loop_of program u l unfolds c in
     let other = loop_of program u m unfolds d in
-    elim (nested program u l m one other image facts first machine sound.is law (meets program u l m one other node in_l in_m)) [
+    elim (nested program u l m one other image facts first machine built law (meets program u l m one other node in_l in_m)) [
       | inl h ↦ h
       | inr h ↦ record { members = no_more m.members l.members other.members_ascend h.members few }
     ]

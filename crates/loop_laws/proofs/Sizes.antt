@@ -129,14 +129,14 @@ module _ (law : HeadsAreOnPaths) (image : Image) (facts : Facts) (first : ℕ) (
       absurd (omega (arith, ap length e, ap length f, length-append other.node.chain (call ∷ calls), length-append one.node.chain (d ∷ ds)))
 
 pub loops_of_one_size_are_one : LoopsAreNested → HeadsAreOnPaths → LoopsOfOneSizeAreOne
-loops_of_one_size_are_one nests law image facts first machine program u l m node sound unfolds c d in_l in_m size =
+loops_of_one_size_are_one nests law image facts first machine program u l m node built unfolds c d in_l in_m size =
     let one = loop_of program u l unfolds c in
     let other = loop_of program u m unfolds d in
-    let out = smaller_loops_are_within nests image facts first machine program u l m node sound unfolds c d in_l in_m (omega (arith, size)) in
-    let back = smaller_loops_are_within nests image facts first machine program u m l node sound unfolds d c in_m in_l (omega (arith, size)) in
-    let heads = same_heads law image facts first machine program sound.is u unfolds l m one other
-    (head_lies program u l m one other (out.members l.head (head_is_member image facts first machine program sound.is u l one)))
-    (head_lies program u m l other one (back.members m.head (head_is_member image facts first machine program sound.is u m other))) in
+    let out = smaller_loops_are_within nests image facts first machine program u l m node built unfolds c d in_l in_m (omega (arith, size)) in
+    let back = smaller_loops_are_within nests image facts first machine program u m l node built unfolds d c in_m in_l (omega (arith, size)) in
+    let heads = same_heads law image facts first machine program built u unfolds l m one other
+    (head_lies program u l m one other (out.members l.head (head_is_member image facts first machine program built u l one)))
+    (head_lies program u m l other one (back.members m.head (head_is_member image facts first machine program built u m other))) in
     let p = place_of u.loops l c in
     let q = place_of u.loops m d in
     let places = one_key (λ (k : ULoop). k.head) u.loops p.place q.place l m unfolds.loops.ascending p.stands q.stands heads in

@@ -4,8 +4,8 @@ use Rattle.flow_ctx.specs.declared.unfolded.Edge.{Edge}
 use Rattle.flow_ctx.specs.declared.unfolded.ULoop.{ULoop}
 use Rattle.flow_ctx.specs.declared.unfolded.Unfolded.{Unfolded}
 
--- A walk from one node to another along edges with these numbers, in their order: each begins where the one before it ends. It is
--- closed if both nodes are the same.
+-- A walk from one node to another along edges with these numbers, in their order: each begins where the one before it
+-- ends. It is closed if both nodes are the same.
 pub data IsWalkFrom (u : Unfolded) : ℕ → List ℕ → ℕ → Type 0 where
   ends : (node : ℕ) → IsWalkFrom u node [] node
   goes : (number : ℕ) (edge : Edge) (walk : List ℕ) (node : ℕ) → slice_get u.edges number ≡ Some edge
