@@ -6,3 +6,4 @@ mod CostLemmas
 mod PayLemmas
 mod NameLemmas
 mod BreakLemmas
+mod ProgressLemmas

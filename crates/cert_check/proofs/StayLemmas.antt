@@ -14,7 +14,7 @@ use Rattle.cert_text.specs.declared.certificate.CertVector.{CertVector}
 use Rattle.cert_text.specs.declared.certificate.Certificate.{Certificate}
 use Rattle.cert_judge.specs.Settled.{settled}
 use Rattle.cert_check.specs.Judging.{IsSite}
-use Rattle.cert_check.specs.Places.{IsCost, IsFinish, edges_of, AreNodeFinishes, AreFinishes, AreVectorCosts, AreNodeCosts, AreCosts}
+use Rattle.cert_check.specs.Places.{IsCost, IsFinish, edges_of, AreNodeFinishes, AreVectorCosts, AreNodeCosts}
 use Rattle.cert_check.proofs.ListLemmas.{for_each_all}
 
 -- a table keeps what it has, at once and in two steps
@@ -64,11 +64,6 @@ module _ (old new : List Node) (k : Keeps old new) where
     node_finishes_stay node family ds w =
         for_each_all (λ place v d. IsFinish old u m node v d) (λ place v d. IsFinish new u m node v d) family ds (λ place v d x. finish_stays node v d x) w
 
-    pub finishes_stay : (families : List (List CertVector)) (finishes : List (List Dd)) → AreFinishes old u m families finishes → AreFinishes new u m families finishes
-    finishes_stay families finishes w =
-        for_each_all (λ node family ds. AreNodeFinishes old u m node family ds) (λ node family ds. AreNodeFinishes new u m node family ds) families finishes
-        (λ node family ds x. node_finishes_stay node family ds x) w
-
     pub vector_costs_stay : (node : ℕ) (v : CertVector) (ds : List Dd) → AreVectorCosts old u m node v ds → AreVectorCosts new u m node v ds
     vector_costs_stay node v ds w =
         for_each_all (λ place edge d. IsCost old u m v edge d) (λ place edge d. IsCost new u m v edge d) (edges_of u node) ds (λ place edge d x. cost_stays v edge d x) w
@@ -77,8 +72,3 @@ module _ (old new : List Node) (k : Keeps old new) where
     node_costs_stay node family costs w =
         for_each_all (λ place v ds. AreVectorCosts old u m node v ds) (λ place v ds. AreVectorCosts new u m node v ds) family costs
         (λ place v ds x. vector_costs_stay node v ds x) w
-
-    pub costs_stay : (families : List (List CertVector)) (costs : List (List (List Dd))) → AreCosts old u m families costs → AreCosts new u m families costs
-    costs_stay families costs w =
-        for_each_all (λ node family ds. AreNodeCosts old u m node family ds) (λ node family ds. AreNodeCosts new u m node family ds) families costs
-        (λ node family ds x. node_costs_stay node family ds x) w

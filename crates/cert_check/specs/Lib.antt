@@ -1,3 +1,4 @@
 pub mod Answers
 pub mod Judging
 pub mod Places
+pub mod Progress

@@ -8,14 +8,12 @@ ghost use Rattle.node_exits.specs.NodeExits.{IsNodeLeaving, IsRight};
 ghost use Rattle.cert_text.specs.declared.certificate.CertVector.{CertVector as VectorOf};
 ghost use Rattle.cert_rules.specs.Prices.{entering, returning};
 ghost use Rattle.cert_rules.specs.Rules.{IsSmallVector, PaysEdges};
-ghost use Rattle.cert_rules.specs.Judged.{HoldsForAll};
-ghost use Rattle.cert_check.specs.Places.{AreCosts, AreNodeCosts, AreVectorCosts, IsCost};
+ghost use Rattle.cert_check.specs.Places.{AreNodeCosts, AreVectorCosts, IsCost};
 ghost use Rattle.cert_check.specs.Judging.{ArePrices, FamilyPays, HasCharges, IsRange, IsSite};
-ghost use Rattle.cert_check.specs.Judging.{IsSubject, NamesFirst, NamesPlace, VectorPaysEdge, VectorPaysEdges};
+ghost use Rattle.cert_check.specs.Judging.{IsSubject, NamesPlace, VectorPaysEdge, VectorPaysEdges};
 
 use crate::charging::charged_at;
 use crate::checked::{NodeCosts, VectorCosts};
-use crate::ranges::end_of_edges;
 use crate::refused::Refused;
 use crate::subject::{Site, Stretch, Subject, classes_at, family_of, offer_at};
 use crate::work::leave_along;
@@ -218,7 +216,7 @@ fn family_costs(
 }
 
 /// The costs along a node's edges from each of the node's vectors, if all pay for them.
-fn node_costs(
+pub(crate) fn node_costs(
     table: &mut Table,
     work: &mut Work,
     subject: &Subject,
@@ -255,38 +253,4 @@ fn node_costs(
     let family = family_of(subject.certificate, node);
     let costs = family_costs(table, work, subject, &site, stretch, family)?;
     Ok(List::new(costs))
-}
-
-/// The costs along each node's edges from each of its vectors, if each vector pays for its own; else the first that
-/// does not.
-pub(crate) fn all_costs(
-    table: &mut Table,
-    work: &mut Work,
-    subject: &Subject,
-) -> Result<Vec<NodeCosts>, Refused>
-    requires subject { let s = subject.now in
-        IsSubject s.unfolded.now s.machine.now s.classes.now s.certificate.now }
-    requires charges { HasCharges subject.now.charges.now subject.now.certificate.now.charges }
-    requires prices { let s = subject.now in
-        ArePrices s.certificate.now s.unfolded.now s.prices.now.entering s.prices.now.returning }
-    requires right { let s = subject.now in
-        IsRight table.old s.unfolded.now s.machine.now work.old }
-    ensures costs { let s = subject.now in IfOk result (λ costs.
-        AreCosts table.new s.unfolded.now s.machine.now s.certificate.now.families costs.items) }
-    ensures pays { let s = subject.now in OnOk result
-        (HoldsForAll (PaysEdges s.unfolded.now s.machine.now s.classes.now s.certificate.now)) }
-    ensures refused { let s = subject.now in IfErr result
-        (NamesFirst (PaysEdges s.unfolded.now s.machine.now s.classes.now s.certificate.now) 3) }
-    ensures kept { Keeps table.old table.new }
-{
-    let mut all = Vec::new(table.allocator());
-    let mut first = 0;
-    for node in 0..subject.unfolded.nodes.len() {
-        let end = end_of_edges(subject.unfolded, node as u32, first);
-        let stretch = Stretch { first, end };
-        let costs = node_costs(table, work, subject, &stretch, node as u32)?;
-        all.push(costs)?;
-        first = end;
-    }
-    Ok(all)
 }

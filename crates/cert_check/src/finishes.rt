@@ -6,9 +6,8 @@ ghost use Rattle.xdd_table.specs.Diagram.{Keeps};
 ghost use Rattle.node_exits.specs.NodeExits.{IsRight};
 ghost use Rattle.cert_text.specs.declared.certificate.CertVector.{CertVector as VectorOf};
 ghost use Rattle.cert_rules.specs.Rules.{IsSmallVector, PaysFinish};
-ghost use Rattle.cert_rules.specs.Judged.{HoldsForAll};
-ghost use Rattle.cert_check.specs.Places.{AreFinishes, AreNodeFinishes, IsFinish};
-ghost use Rattle.cert_check.specs.Judging.{FamilyPays, HasCharges, IsSite, IsSubject, NamesFirst, NamesPlace};
+ghost use Rattle.cert_check.specs.Places.{AreNodeFinishes, IsFinish};
+ghost use Rattle.cert_check.specs.Judging.{FamilyPays, HasCharges, IsSite, IsSubject, NamesPlace};
 ghost use Rattle.cert_check.specs.Judging.{VectorPaysFinish};
 
 use crate::charging::charged_at;
@@ -123,7 +122,7 @@ fn family_finishes(
 }
 
 /// The finishes from the vectors of a node, if all pay for them.
-fn node_finishes(
+pub(crate) fn node_finishes(
     table: &mut Table,
     work: &mut Work,
     subject: &Subject,
@@ -156,33 +155,4 @@ fn node_finishes(
     let family = family_of(subject.certificate, node);
     let finishes = family_finishes(table, work, subject, &site, family)?;
     Ok(List::new(finishes))
-}
-
-/// The finishes from the vectors of all nodes, if each vector pays for its own; else the first that does not.
-pub(crate) fn all_finishes(
-    table: &mut Table,
-    work: &mut Work,
-    subject: &Subject,
-) -> Result<Vec<Finishes>, Refused>
-    requires subject { let s = subject.now in
-        IsSubject s.unfolded.now s.machine.now s.classes.now s.certificate.now }
-    requires charges { HasCharges subject.now.charges.now subject.now.certificate.now.charges }
-    requires right { let s = subject.now in
-        IsRight table.old s.unfolded.now s.machine.now work.old }
-    ensures finishes { let s = subject.now in IfOk result (λ finishes.
-        AreFinishes table.new s.unfolded.now s.machine.now s.certificate.now.families finishes.items) }
-    ensures pays { let s = subject.now in OnOk result
-        (HoldsForAll (PaysFinish s.unfolded.now s.machine.now s.classes.now s.certificate.now)) }
-    ensures refused { let s = subject.now in IfErr result
-        (NamesFirst (PaysFinish s.unfolded.now s.machine.now s.classes.now s.certificate.now) 2) }
-    ensures right { let s = subject.now in
-        IsRight table.new s.unfolded.now s.machine.now work.new }
-    ensures kept { Keeps table.old table.new }
-{
-    let mut all = Vec::new(table.allocator());
-    for node in 0..subject.unfolded.nodes.len() {
-        let finishes = node_finishes(table, work, subject, node as u32)?;
-        all.push(finishes)?;
-    }
-    Ok(all)
 }

@@ -5,6 +5,7 @@ mod charging;
 mod checked;
 mod edges;
 mod finishes;
+mod nodes;
 mod ranges;
 mod refused;
 mod rules;

@@ -7,17 +7,15 @@ ghost use Rattle.flow_ctx.specs.Laws.{IsUnfoldedOn};
 ghost use Rattle.flow_ctx.specs.Unfolding.{IsUnfolding, most_nodes};
 ghost use Rattle.xdd_table.specs.Diagram.{Keeps};
 ghost use Rattle.cache_class.specs.Classes.{AreClasses};
-ghost use Rattle.cert_rules.specs.Rules.{HasShape, HasSmallNumbers, HasStart, IsValid, PaysEdges, PaysFinish};
-ghost use Rattle.cert_rules.specs.Judged.{HoldsForAll};
+ghost use Rattle.cert_rules.specs.Rules.{HasShape, HasSmallNumbers, HasStart, IsValid};
 ghost use Rattle.cert_prices.specs.Sums.{AreTotalCounts};
 ghost use Rattle.cert_check.specs.declared.refused.Refused.TheVariants as refusal;
 ghost use Rattle.cert_check.specs.Answers.{IsAccepted, IsRefusal};
-ghost use Rattle.cert_check.specs.Judging.{ArePrices, Breaks, HasCharges, IsSubject};
+ghost use Rattle.cert_check.specs.Judging.{Breaks};
 ghost use Rattle.cert_check.specs.Places.{AreCosts, AreFinishes};
 
-use crate::checked::{Checked, Finishes, NodeCosts};
-use crate::edges::all_costs;
-use crate::finishes::all_finishes;
+use crate::checked::Checked;
+use crate::nodes::judge_vectors;
 use crate::refused::Refused;
 use crate::subject::Subject;
 use cache_class::{Classes, classify};
@@ -27,7 +25,6 @@ use cert_prices::{
 };
 use cert_text::Certificate;
 use flow_ctx::Unfolded;
-use node_exits::Work;
 use std::alloc::Global;
 use wx_base::Machine;
 use wx_text::List;
@@ -71,39 +68,6 @@ fn judge_lists(
         return Err(broken(1));
     }
     Ok(())
-}
-
-/// The diagrams for the vectors of a certificate.
-#[derive(Drop)]
-struct Diagrams {
-    finishes: Vec<Finishes>,
-    costs: Vec<NodeCosts>,
-}
-
-/// Tries the rules on each vector, 2 and 3, and puts the diagrams into the table.
-fn judge_vectors(table: &mut Table, subject: &Subject) -> Result<Diagrams, Refused>
-    requires subject { let s = subject.now in
-        IsSubject s.unfolded.now s.machine.now s.classes.now s.certificate.now }
-    requires charges { HasCharges subject.now.charges.now subject.now.certificate.now.charges }
-    requires prices { let s = subject.now in
-        ArePrices s.certificate.now s.unfolded.now s.prices.now.entering s.prices.now.returning }
-    requires start { HasStart subject.now.unfolded.now subject.now.certificate.now }
-    ensures finishes { let s = subject.now in IfOk result (λ diagrams.
-        AreFinishes table.new s.unfolded.now s.machine.now s.certificate.now.families diagrams.finishes.items) }
-    ensures costs { let s = subject.now in IfOk result (λ diagrams.
-        AreCosts table.new s.unfolded.now s.machine.now s.certificate.now.families diagrams.costs.items) }
-    ensures ends { let s = subject.now in OnOk result
-        (HoldsForAll (PaysFinish s.unfolded.now s.machine.now s.classes.now s.certificate.now)) }
-    ensures edges { let s = subject.now in OnOk result
-        (HoldsForAll (PaysEdges s.unfolded.now s.machine.now s.classes.now s.certificate.now)) }
-    ensures refused { let s = subject.now in IfErr result
-        (Breaks s.unfolded.now s.machine.now s.classes.now s.certificate.now) }
-    ensures kept { Keeps table.old table.new }
-{
-    let mut work = Work::new(table.allocator());
-    let finishes = all_finishes(table, &mut work, subject)?;
-    let costs = all_costs(table, &mut work, subject)?;
-    Ok(Diagrams { finishes, costs })
 }
 
 /// Tries all rules, where the events of the unfolding have these classes.
@@ -161,6 +125,8 @@ fn judge(
 ///
 /// The time goes by the vectors, the edges and the different parts of the diagrams, and for each edge and outcome by
 /// the vectors of the edge's target.
+/// What blocks hand on is kept for the vectors of a stretch of nodes alone, 4,096 of them at most beside those of
+/// the last node.
 pub fn check(
     u: &Unfolded,
     m: &Machine,
