@@ -1,0 +1,4 @@
+mod FinishLemmas
+mod Lists
+mod StartLemmas
+mod GraphLemmas
